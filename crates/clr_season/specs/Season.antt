@@ -1,0 +1,51 @@
+-- A markdown season. Stores, weeks and rungs are counted from 1, demands from 0. Prices, salvages and costs are in cents.
+use Rattle.std.specs.Prelude.{◌≡◌, ◌≤◌, ℕ, suc, ◌+◌, ◌-◌, ◌*◌, min, List, [], length, get_or, sum}
+use Rattle.std.specs.List.{sum_by}
+use Rattle.clr_num.specs.Lists.{numbers, nth}
+use Rattle.clr_rules.specs.Rules.{Rulebook, IsRulebook}
+use Rattle.clr_stock.specs.Stock.{Store, no_store}
+
+-- The rules, the stores, the base that weights sum to, the greatest demand that is listed, and the weights of all
+-- demands: by store, week and rung, and then by units from 0 to the greatest.
+pub record Season : Type 0 where
+  pub rules : Rulebook
+  pub stores : List Store
+  pub base : ℕ
+  pub top : ℕ
+  pub weights : List (List (List (List ℕ)))
+
+abbrev pub store_at : Season → ℕ → Store
+store_at season store = nth season.stores store no_store
+
+-- the demands 0 to the greatest
+abbrev pub demands : Season → List ℕ
+demands season = numbers 0 (suc season.top)
+
+-- the weights of a store in a week on a rung, by units from 0
+abbrev pub weights_of : Season → ℕ → ℕ → ℕ → List ℕ
+weights_of season store week rung = nth (nth (nth season.weights store []) week []) rung []
+
+-- the weight of a demand at a store in a week on a rung
+abbrev pub weight : Season → ℕ → ℕ → ℕ → ℕ → ℕ
+weight season store week rung demand = get_or (weights_of season store week rung) demand 0
+
+-- the numbers of a store, a week and a rung of the season
+pub record IsPlace (season : Season) (store week rung : ℕ) : Type 0 where
+  pub first_store : 1 ≤ store
+  pub last_store : store ≤ length season.stores
+  pub first_week : 1 ≤ week
+  pub last_week : week ≤ season.rules.weeks
+  pub first_rung : 1 ≤ rung
+  pub last_rung : rung ≤ length season.rules.prices
+
+-- the table cells that a store of so many units takes: one for each number of weeks done, summary and stock
+abbrev pub store_cells : Rulebook → ℕ → ℕ
+store_cells rules units =
+    (rules.weeks + 1) * length rules.prices * (min rules.markdowns (min (length rules.prices - 1) rules.weeks) + 1) * rules.spacing * (units + 1)
+
+-- those of all stores
+abbrev pub cells : Rulebook → List Store → ℕ
+cells rules stores = sum_by (λ store. store_cells rules store.units) stores
+
+abbrev pub most_cells : ℕ
+most_cells = 8000000

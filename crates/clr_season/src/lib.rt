@@ -1,0 +1,2 @@
+//! The season of a folder's files.
+#![tactic(auto)]
