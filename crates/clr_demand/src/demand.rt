@@ -1,0 +1,102 @@
+// The weights of a season's demands.
+ghost use Rattle.std.specs.Prelude.{◌≡◌, ◌≤◌, ◌<◌, ◌-◌, ◌+◌, ◌*◌, [], ℕ, List, suc, length, sum, drop, slice_index_or};
+ghost use Rattle.clr_demand.specs.Places.{size};
+ghost use Rattle.clr_demand.specs.Weights.{AreWeights, flat_row, row_number, tail_at, weight_at, weights_at};
+
+use crate::Shape;
+use std::marker::Model;
+
+/// How likely each demand is: its weight out of the base, for each store, week and rung, each
+/// numbered from 1, and each number of units from 0 to the greatest that the season lists. The
+/// weights of a store, a week and a rung sum to the base.
+#[derive(Drop)]
+pub struct Demand {
+    shape: Shape,
+    base: u32,
+    weights: Vec<u32>,
+}
+
+impl Model for Demand {
+    ghost use Rattle.clr_demand.specs.Weights.{DemandWeights};
+    ghost use Rattle.clr_demand.specs.FlatWeights.{IsBalanced, weights_in};
+
+    ghost Value = { DemandWeights };
+
+    ghost view = { λ d. weights_in d.shape d.base d.weights.items };
+
+    ghost invariant = { λ d. IsBalanced d.shape d.base d.weights.items };
+}
+
+// The row of a store, a week and a rung.
+fn row_of(weights: &[u32], shape: Shape, store: u32, week: u32, rung: u32) -> &[u32]
+    requires stores { shape.stores ≤ 64 }
+    requires weeks { shape.weeks ≤ 52 }
+    requires rungs { shape.rungs ≤ 12 }
+    requires top { shape.top ≤ 200 }
+    requires size { length weights.now ≡ size shape }
+    requires store { (1 ≤ store) × (store ≤ shape.stores) }
+    requires week { (1 ≤ week) × (week ≤ shape.weeks) }
+    requires rung { (1 ≤ rung) × (rung ≤ shape.rungs) }
+    ensures { result.now ≡ flat_row (shape.top + 1) weights.now (row_number shape.weeks shape.rungs store week rung) }
+{
+    let width = shape.top as usize + 1;
+    let week_number = (store as usize - 1) * shape.weeks as usize + (week as usize - 1);
+    let start = (week_number * shape.rungs as usize + (rung as usize - 1)) * width;
+    &weights[start..start + width]
+}
+
+// The sum of weights.
+fn sum_of(weights: &[u32]) -> u32
+    requires { sum weights.now ≤ 1000000 }
+    ensures { result ≡ sum weights.now }
+{
+    weights.iter().sum()
+}
+
+impl Demand {
+    /// The greatest units that the season lists, from 0 to 200.
+    pub fn top(&self) -> u32
+        ensures top { result ≡ self.now.top }
+        ensures high { result ≤ 200 }
+        ensures facts { AreWeights self.now.stores self.now.weeks self.now.rungs self.now.base self.now }
+    {
+        self.shape.top
+    }
+
+    /// The weights of a store, a week and a rung, by units from 0 to the greatest.
+    pub fn weights(&self, store: u32, week: u32, rung: u32) -> &[u32]
+        requires store { (1 ≤ store) × (store ≤ self.now.stores) }
+        requires week { (1 ≤ week) × (week ≤ self.now.weeks) }
+        requires rung { (1 ≤ rung) × (rung ≤ self.now.rungs) }
+        ensures weights { result.now ≡ weights_at self.now store week rung }
+        ensures len { length result.now ≡ suc self.now.top }
+        ensures sum { sum result.now ≡ self.now.base }
+        ensures top { self.now.top ≤ 200 }
+        ensures base { self.now.base ≤ 1000000 }
+    {
+        row_of(&self.weights, self.shape, store, week, rung)
+    }
+
+    /// The weight of a demand of so many units, out of the base.
+    pub fn weight(&self, store: u32, week: u32, rung: u32, units: u32) -> u32
+        requires store { (1 ≤ store) × (store ≤ self.now.stores) }
+        requires week { (1 ≤ week) × (week ≤ self.now.weeks) }
+        requires rung { (1 ≤ rung) × (rung ≤ self.now.rungs) }
+        requires units { units ≤ self.now.top }
+        ensures { result ≡ weight_at self.now store week rung units }
+    {
+        self.weights(store, week, rung)[units as usize]
+    }
+
+    /// The weight of all demands of at least so many units, out of the base. One unit past the
+    /// greatest it is 0.
+    pub fn tail(&self, store: u32, week: u32, rung: u32, units: u32) -> u32
+        requires store { (1 ≤ store) × (store ≤ self.now.stores) }
+        requires week { (1 ≤ week) × (week ≤ self.now.weeks) }
+        requires rung { (1 ≤ rung) × (rung ≤ self.now.rungs) }
+        requires units { units ≤ self.now.top + 1 }
+        ensures { result ≡ tail_at self.now store week rung units }
+    {
+        sum_of(&self.weights(store, week, rung)[units as usize..])
+    }
+}
