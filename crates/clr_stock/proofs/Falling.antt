@@ -1,7 +1,6 @@
-use Rattle.std.proofs.Common.{◌≡◌, ◌<◌, ◌≤◌, ◌+◌, ◌-◌, ℕ, zero, suc, List, [], ◌∷◌, ◌++◌, length, Bool, true, arith}
+use Rattle.std.proofs.Common.{◌≡◌, ◌<◌, ◌≤◌, ◌-◌, ℕ, zero, suc, List, [], ◌∷◌, ◌++◌, length, true, arith}
 use Rattle.std.specs.Prelude.{slice_index, EachIndex}
 use Rattle.std.proofs.lemmas.Bool.{ltb-true}
-use Rattle.clr_num.specs.Prices.{IsLadder}
 use Rattle.clr_stock.specs.Ladder.{falls}
 
 -- prices in their range, each less than the one before
@@ -33,20 +32,4 @@ falling_push xs y all low high last = record {
   least = each-push (λ n. 1 ≤ n) xs y all.least low;
   most = each-push (λ n. n ≤ 10000000) xs y all.most high;
   falls = falls-push xs y all.falls last;
-}
-
-pub falling_none : AreFalling []
-falling_none = record {
-  least = λ i less. absurd (omega arith);
-  most = λ i less. absurd (omega arith);
-  falls = λ i less. absurd (omega arith);
-}
-
-pub ladder_from : (xs : List ℕ) → AreFalling xs → 1 ≤ length xs → length xs ≤ 12 → IsLadder xs
-ladder_from xs all some few = record {
-  some = some;
-  few = few;
-  least = all.least;
-  most = all.most;
-  falls = all.falls;
 }

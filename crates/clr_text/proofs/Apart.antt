@@ -1,5 +1,5 @@
 -- Names that differ from one another.
-use Rattle.std.proofs.Common.{◌≡◌, ◌≢◌, ◌<◌, ◌≤◌, ◌+◌, ◌∙◌, ℕ, zero, suc, List, [], ◌∷◌, ◌++◌, length, get_or, Bool, true, false, refl, ap, sym, inl, inr, arith, length-append}
+use Rattle.std.proofs.Common.{◌≡◌, ◌≢◌, ◌<◌, ◌+◌, ◌∙◌, ℕ, zero, suc, List, [], ◌∷◌, ◌++◌, length, get_or, Bool, true, false, refl, sym, inl, inr, arith, length-append}
 use Rattle.std.specs.Prelude.{◌||◌, if◌then◌else◌}
 use Rattle.std.specs.List.{list_any}
 use Rattle.std.proofs.lemmas.Bool.{cases_lt}
@@ -35,8 +35,8 @@ distinct-more names name apart free i j d below less =
     elim (cases_lt j (length names)) [
       | inl within ↦ rw (first, get_or_append_left names (name ∷ []) d j within) (apart i j d below within)
       | inr past ↦
-        let last : j ≡ length names = omega (arith, all) in
-        rw (first, last, get_or-append_seam names name [] d) (other-held names name i d free start)
+          let last : j ≡ length names = omega (arith, all) in
+          rw (first, last, get_or-append_seam names name [] d) (other-held names name i d free start)
     ]
 
 -- the names with one more, unless it is held
