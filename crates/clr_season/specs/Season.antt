@@ -3,7 +3,7 @@ use Rattle.std.specs.Prelude.{◌≡◌, ◌≤◌, ℕ, suc, ◌+◌, ◌-◌, 
 use Rattle.std.specs.List.{sum_by}
 use Rattle.clr_num.specs.Lists.{numbers, nth}
 use Rattle.clr_rules.specs.Rules.{Rulebook, IsRulebook}
-use Rattle.clr_stock.specs.Stock.{Store, no_store}
+use Rattle.clr_stock.specs.Stock.{Store, AreStores, no_store}
 
 -- The rules, the stores, the base that weights sum to, the greatest demand that is listed, and the weights of all
 -- demands: by store, week and rung, and then by units from 0 to the greatest.
@@ -49,3 +49,16 @@ cells rules stores = sum_by (λ store. store_cells rules store.units) stores
 
 abbrev pub most_cells : ℕ
 most_cells = 8000000
+
+-- What holds of every season: the rules, the stores and the numbers lie within their limits, and the weights of each
+-- store, week and rung are as many as there are demands and sum to the base.
+pub record IsSeason (season : Season) : Type 0 where
+  pub rules : IsRulebook season.rules
+  pub some : 1 ≤ length season.stores
+  pub stores : AreStores season.stores
+  pub least_base : 1 ≤ season.base
+  pub most_base : season.base ≤ 1000000
+  pub most_demand : season.top ≤ 200
+  pub sizes : (store week rung : ℕ) → IsPlace season store week rung → length (weights_of season store week rung) ≡ suc season.top
+  pub sums : (store week rung : ℕ) → IsPlace season store week rung → sum (weights_of season store week rung) ≡ season.base
+  pub few_cells : cells season.rules season.stores ≤ most_cells

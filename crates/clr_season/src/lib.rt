@@ -1,2 +1,6 @@
-//! The season of a folder's files.
+//! The season that a folder's files read to.
 #![tactic(auto)]
+
+mod season;
+
+pub use season::Season;
