@@ -1,0 +1,71 @@
+// Bytes kept in memory, in one list.
+ghost use Rattle.std.specs.Prelude.{◌≡◌, ◌+◌, ◌≤◌, [], length, IfOk, Some, vec_capacity};
+
+use super::calls::Calls;
+use crate::{Failed, Sink};
+use std::alloc::{AllocError, Global};
+
+/// A sink that keeps in memory what was written. It takes its memory when it is made.
+///
+/// A write takes the least of `piece`, the piece's length and the room left. It fails at the chosen
+/// calls, and where no room is left for a piece that isn't empty, and at no other.
+#[derive(Drop)]
+pub struct MemorySink {
+    bytes: Vec<u8>,
+    room: usize,
+    piece: usize,
+    calls: Calls,
+    ghost piece_is: { 1 ≤ piece },
+    ghost reserved: { room + length bytes.items ≤ vec_capacity bytes },
+}
+
+impl MemorySink {
+    /// An empty sink with room for `room` bytes, which takes at most `piece` of them at a time, and
+    /// whose calls of the numbers `fail`, counted from 1, are faults.
+    pub fn new(
+        alloc: Global,
+        room: usize,
+        piece: usize,
+        fail: Vec<u64>,
+    ) -> Result<MemorySink, AllocError>
+        requires { 1 ≤ piece }
+        ensures written { IfOk result (λ s. ⟦<MemorySink as Sink>⟧.written s ≡ Some []) }
+        ensures around { IfOk result (λ s. ⟦<MemorySink as Sink>⟧.around s ≡ Some []) }
+        ensures faults { IfOk result (λ s. ⟦<MemorySink as Sink>⟧.faults s ≡ 0) }
+    {
+        Ok(MemorySink {
+            bytes: Vec::with_capacity(alloc, room)?,
+            room,
+            piece,
+            calls: Calls::new(fail),
+        })
+    }
+
+    /// What was written.
+    pub fn bytes(&self) -> &[u8]
+        ensures { ⟦<MemorySink as Sink>⟧.written self.now ≡ Some result.now }
+    {
+        &self.bytes
+    }
+}
+
+impl Sink for MemorySink {
+    ghost written = { λ s. Some s.bytes.items };
+
+    ghost around = { λ _. Some [] };
+
+    ghost faults = { λ s. s.calls.faults.count };
+
+    ghost faults_fit = { λ s. s.calls.faults.fits };
+
+    fn write(&mut self, piece: &[u8]) -> Result<usize, Failed> {
+        self.calls.begin()?;
+        if self.room == 0 && !piece.is_empty() {
+            return Err(self.calls.fault());
+        }
+        let count = self.piece.min(piece.len()).min(self.room);
+        self.room -= count;
+        self.bytes.extend_from_slice(&piece[..count]).unwrap();
+        Ok(count)
+    }
+}
