@@ -1,5 +1,7 @@
 // Files made in memory, their bytes one after another in one list.
-ghost use Rattle.std.specs.Prelude.{◌≡◌, ◌+◌, ◌<◌, ◌≤◌, [], drop, length, map, slice_get, slice_range, true, IfOk, Some, string_bytes, string_len, string_capacity, vec_capacity};
+ghost use Rattle.std.specs.Prelude.{◌≡◌, ◌+◌, ◌<◌, ◌≤◌, ◌++◌, ◌∷◌, [], drop, length, map, option_map, slice_get, true, IfOk, OnErr, OnOk, Some, string_bytes, string_capacity, vec_capacity};
+ghost use Rattle.std.specs.Io.KnownBytes.{WriteAppends};
+ghost use Rattle.clr_io.specs.Causes.{HasCause};
 ghost use Rattle.clr_io.specs.Entries.{in_order, start_of};
 
 use super::calls::Calls;
@@ -61,7 +63,7 @@ pub struct MemoryDesk {
 }
 
 impl MemoryDesk {
-    ghost use Rattle.clr_io.specs.MemoryDesk.{files_on};
+    ghost use Rattle.clr_io.specs.MemoryDesk.{IsNewDesk, files_on};
 
     /// A desk for `files` files, with room for `room` bytes over all of them, which takes at most
     /// `piece` bytes at a time, and whose calls of the numbers `fail`, counted from 1, are faults.
@@ -75,6 +77,7 @@ impl MemoryDesk {
         requires { 1 ≤ piece }
         ensures made { IfOk result (λ d. ⟦<MemoryDesk as Desk>⟧.made d ≡ Some []) }
         ensures faults { IfOk result (λ d. ⟦<MemoryDesk as Sink>⟧.faults d ≡ 0) }
+        ensures fresh { IfOk result (λ d. IsNewDesk d files room piece fail.items) }
     {
         Ok(MemoryDesk {
             bytes: Vec::with_capacity(alloc, room)?,
@@ -138,7 +141,7 @@ fn spare_names(alloc: Global, files: usize) -> Result<Vec<SpareName>, AllocError
 impl Sink for MemoryDesk {
     ghost use Rattle.std.specs.Prelude.{Some};
     ghost use Rattle.clr_io.specs.Files.{around_last, last_bytes};
-    ghost use Rattle.clr_io.specs.MemoryDesk.{files_on};
+    ghost use Rattle.clr_io.specs.MemoryDesk.{IsWritten, files_on};
 
     ghost written = { λ d. last_bytes (files_on d) };
 
@@ -148,7 +151,17 @@ impl Sink for MemoryDesk {
 
     ghost faults_fit = { λ d. d.calls.faults.fits };
 
-    fn write(&mut self, piece: &[u8]) -> Result<usize, Failed> {
+    // The clauses of `Sink::write`, and what this desk adds.
+    fn write(&mut self, piece: &[u8]) -> Result<usize, Failed>
+        ensures count { IfOk result (λ n. n ≤ length piece.now) }
+        ensures some { 0 < length piece.now → IfOk result (λ n. 1 ≤ n) }
+        ensures bytes { WriteAppends (⟦<MemoryDesk as Sink>⟧.written self.old) (⟦<MemoryDesk as Sink>⟧.written self.new) result piece.now }
+        ensures empty { piece.now ≡ [] → OnOk result ((⟦<MemoryDesk as Sink>⟧.written self.new ≡ ⟦<MemoryDesk as Sink>⟧.written self.old) × (⟦<MemoryDesk as Sink>⟧.faults self.new ≡ ⟦<MemoryDesk as Sink>⟧.faults self.old)) }
+        ensures kept { OnErr result (⟦<MemoryDesk as Sink>⟧.written self.new ≡ ⟦<MemoryDesk as Sink>⟧.written self.old) }
+        ensures around { ⟦<MemoryDesk as Sink>⟧.around self.new ≡ ⟦<MemoryDesk as Sink>⟧.around self.old }
+        ensures cause { HasCause (⟦<MemoryDesk as Sink>⟧.faults self.old) (⟦<MemoryDesk as Sink>⟧.faults self.new) result }
+        ensures exact { IsWritten self.old self.new piece.now result }
+    {
         self.calls.begin()?;
         if self.entries.is_empty() {
             return Ok(piece.len());
@@ -165,13 +178,19 @@ impl Sink for MemoryDesk {
 
 impl Desk for MemoryDesk {
     ghost use Rattle.std.specs.Prelude.{Some, refl};
-    ghost use Rattle.clr_io.specs.MemoryDesk.{files_on};
+    ghost use Rattle.clr_io.specs.MemoryDesk.{IsCreated, files_on};
 
     ghost made = { λ d. Some (files_on d) };
 
     ghost shows = { λ _. (refl, refl) };
 
-    fn create(&mut self, name: &str) -> Result<(), Failed> {
+    // The clauses of `Desk::create`, and what this desk adds.
+    fn create(&mut self, name: &str) -> Result<(), Failed>
+        ensures ok { OnOk result (⟦<MemoryDesk as Desk>⟧.made self.new ≡ option_map (λ files. files ++ (name.now, []) ∷ []) (⟦<MemoryDesk as Desk>⟧.made self.old)) }
+        ensures err { OnErr result (⟦<MemoryDesk as Desk>⟧.made self.new ≡ ⟦<MemoryDesk as Desk>⟧.made self.old) }
+        ensures cause { HasCause (⟦<MemoryDesk as Sink>⟧.faults self.old) (⟦<MemoryDesk as Sink>⟧.faults self.new) result }
+        ensures exact { IsCreated self.old self.new name.now result }
+    {
         self.calls.begin()?;
         if name.len() > LONGEST_NAME {
             return Err(self.calls.fault());

@@ -1,5 +1,7 @@
 // Bytes kept in memory, in one list.
-ghost use Rattle.std.specs.Prelude.{◌≡◌, ◌+◌, ◌≤◌, [], length, IfOk, Some, vec_capacity};
+ghost use Rattle.std.specs.Prelude.{◌≡◌, ◌+◌, ◌<◌, ◌≤◌, [], length, IfOk, OnErr, OnOk, Some, vec_capacity};
+ghost use Rattle.std.specs.Io.KnownBytes.{WriteAppends};
+ghost use Rattle.clr_io.specs.Causes.{HasCause};
 
 use super::calls::Calls;
 use crate::{Failed, Sink};
@@ -20,6 +22,8 @@ pub struct MemorySink {
 }
 
 impl MemorySink {
+    ghost use Rattle.clr_io.specs.MemorySink.{IsNewSink};
+
     /// An empty sink with room for `room` bytes, which takes at most `piece` of them at a time, and
     /// whose calls of the numbers `fail`, counted from 1, are faults.
     pub fn new(
@@ -32,6 +36,7 @@ impl MemorySink {
         ensures written { IfOk result (λ s. ⟦<MemorySink as Sink>⟧.written s ≡ Some []) }
         ensures around { IfOk result (λ s. ⟦<MemorySink as Sink>⟧.around s ≡ Some []) }
         ensures faults { IfOk result (λ s. ⟦<MemorySink as Sink>⟧.faults s ≡ 0) }
+        ensures fresh { IfOk result (λ s. IsNewSink s room piece fail.items) }
     {
         Ok(MemorySink {
             bytes: Vec::with_capacity(alloc, room)?,
@@ -50,6 +55,9 @@ impl MemorySink {
 }
 
 impl Sink for MemorySink {
+    ghost use Rattle.std.specs.Prelude.{Some, []};
+    ghost use Rattle.clr_io.specs.MemorySink.{IsWritten};
+
     ghost written = { λ s. Some s.bytes.items };
 
     ghost around = { λ _. Some [] };
@@ -58,7 +66,17 @@ impl Sink for MemorySink {
 
     ghost faults_fit = { λ s. s.calls.faults.fits };
 
-    fn write(&mut self, piece: &[u8]) -> Result<usize, Failed> {
+    // The clauses of `Sink::write`, and what this sink adds.
+    fn write(&mut self, piece: &[u8]) -> Result<usize, Failed>
+        ensures count { IfOk result (λ n. n ≤ length piece.now) }
+        ensures some { 0 < length piece.now → IfOk result (λ n. 1 ≤ n) }
+        ensures bytes { WriteAppends (⟦<MemorySink as Sink>⟧.written self.old) (⟦<MemorySink as Sink>⟧.written self.new) result piece.now }
+        ensures empty { piece.now ≡ [] → OnOk result ((⟦<MemorySink as Sink>⟧.written self.new ≡ ⟦<MemorySink as Sink>⟧.written self.old) × (⟦<MemorySink as Sink>⟧.faults self.new ≡ ⟦<MemorySink as Sink>⟧.faults self.old)) }
+        ensures kept { OnErr result (⟦<MemorySink as Sink>⟧.written self.new ≡ ⟦<MemorySink as Sink>⟧.written self.old) }
+        ensures around { ⟦<MemorySink as Sink>⟧.around self.new ≡ ⟦<MemorySink as Sink>⟧.around self.old }
+        ensures cause { HasCause (⟦<MemorySink as Sink>⟧.faults self.old) (⟦<MemorySink as Sink>⟧.faults self.new) result }
+        ensures exact { IsWritten self.old self.new piece.now result }
+    {
         self.calls.begin()?;
         if self.room == 0 && !piece.is_empty() {
             return Err(self.calls.fault());

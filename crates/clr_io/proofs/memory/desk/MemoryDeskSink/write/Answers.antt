@@ -2,7 +2,7 @@ use Rattle.std.proofs.Common.{◌≡◌, ◌≤◌, ◌<◌, ◌++◌, length, t
 use Rattle.std.proofs.lemmas.Grind.{common_steps}
 use Rattle.clr_io.specs.Entries.{in_order, files_in}
 use Rattle.clr_io.specs.Files.{last_bytes, around_last}
-use Rattle.clr_io.proofs.Entries.{in_order-more, last-more, around-more, grows}
+use Rattle.clr_io.proofs.Entries.{in_order-more, last-more, around-more, grows, length-files_in}
 use Rattle.clr_io.proofs.memory.desk.MemoryDeskSink.write.Goals as goal
 
 pub invariant_of-self-2-clause-ordered : goal.invariant_of-self-2-clause-ordered
@@ -25,3 +25,27 @@ returns-clause-around c =
     let bytes = c.args.self.now.bytes.items in
     let grown : c.extend_from_slice.new.self.items ≡ bytes ++ take c.min-count.result c.args.piece.now = search (rules, common_steps) in
     ap (λ (b : List ℕ). Some (around_last (files_in entries b))) grown ∙ ap (λ f. Some f) (around-more entries bytes (take c.min-count.result c.args.piece.now) c.args.self.now.ordered)
+
+pub returns-then-not-is_empty-clause-exact : goal.returns-then-not-is_empty-clause-exact
+returns-then-not-is_empty-clause-exact c =
+    let some : 0 < length c.args.self.now.entries.items = search (rules, common_steps) in
+    let many = length-files_in c.args.self.now.entries.items c.args.self.now.bytes.items in
+    record {
+      calls = search (rules, common_steps);
+      fails = grind (arith, common_steps, many, some);
+      count = search (rules, common_steps);
+      piece = search (rules, common_steps);
+      left = search (rules, common_steps);
+    }
+
+pub returns-clause-exact : goal.returns-clause-exact
+returns-clause-exact c =
+    let some : 0 < length c.args.self.now.entries.items = search (rules, common_steps) in
+    let many = length-files_in c.args.self.now.entries.items c.args.self.now.bytes.items in
+    record {
+      calls = search (rules, common_steps);
+      fails = grind (arith, common_steps, many, some);
+      count = grind (arith, common_steps, many, some);
+      piece = search (rules, common_steps);
+      left = search (rules, common_steps);
+    }
