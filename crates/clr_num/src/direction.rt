@@ -1,0 +1,91 @@
+//! Division rounded down and up.
+ghost use Rattle.clr_num.specs.Direction.{IsDirection, AtLeast, AtMost};
+ghost use Rattle.clr_num.specs.DirectionLaws.{ceil_is_direction, floor_is_direction};
+ghost use Rattle.clr_num.specs.Rounding.{ceil, floor};
+ghost use Rattle.std.specs.Prelude.{◌≡◌, ℕ, ℤ, pos, ◌≤ℤ◌, nat_abs};
+
+/// A way to round, up or down.
+///
+/// A lower bound is computed with [`Down`] and an upper bound with [`Up`], by one body. Sums,
+/// averages and maxima of numbers that lean to one side lean to it too.
+pub trait Direction {
+    // `leans a b`: a stands on the safe side of b.
+    ghost leans: { ℤ → ℤ → Type 0 };
+
+    // The number divided by the base, rounded this way.
+    ghost quotient: { ℤ → ℕ → ℤ };
+
+    /// The number divided by the base, rounded this way, also below zero.
+    ///
+    /// The base is at least 1. The quotient times the base leans from the number and differs
+    /// from it by less than the base.
+    fn div(num: i128, base: i128) -> i128
+        requires { pos 1 ≤ℤ base }
+        ensures { result ≡ quotient num (nat_abs base) };
+
+    /// [`Direction::div`] at 64 bits, which is far faster.
+    fn div_narrow(num: i64, base: i64) -> i64
+        requires { pos 1 ≤ℤ base }
+        ensures { result ≡ quotient num (nat_abs base) };
+
+    // Sums and averages keep the relation, and a division goes its way by less than one.
+    ghost laws: { IsDirection leans quotient };
+}
+
+/// Rounding up: to the least whole number that isn't below the exact quotient.
+pub struct Up;
+
+/// Rounding down: to the greatest whole number that isn't above the exact quotient.
+pub struct Down;
+
+impl Direction for Down {
+    ghost leans = { AtMost };
+
+    ghost quotient = { floor };
+
+    fn div(num: i128, base: i128) -> i128 {
+        let quotient = num / base;
+        if num % base < 0 {
+            quotient - 1
+        } else {
+            quotient
+        }
+    }
+
+    fn div_narrow(num: i64, base: i64) -> i64 {
+        let quotient = num / base;
+        if num % base < 0 {
+            quotient - 1
+        } else {
+            quotient
+        }
+    }
+
+    ghost laws = { floor_is_direction };
+}
+
+impl Direction for Up {
+    ghost leans = { AtLeast };
+
+    ghost quotient = { ceil };
+
+    fn div(num: i128, base: i128) -> i128 {
+        let quotient = num / base;
+        if num % base > 0 {
+            quotient + 1
+        } else {
+            quotient
+        }
+    }
+
+    fn div_narrow(num: i64, base: i64) -> i64 {
+        let quotient = num / base;
+        if num % base > 0 {
+            quotient + 1
+        } else {
+            quotient
+        }
+    }
+
+    ghost laws = { ceil_is_direction };
+}
