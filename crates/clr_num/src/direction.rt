@@ -1,7 +1,7 @@
 //! Division rounded down and up.
 ghost use Rattle.clr_num.specs.Direction.{IsDirection, AtLeast, AtMost};
 ghost use Rattle.clr_num.specs.DirectionLaws.{ceil_is_direction, floor_is_direction};
-ghost use Rattle.clr_num.specs.Rounding.{ceil, floor};
+ghost use Rattle.clr_num.specs.Rounding.{ceil, floor, RoundsDown, RoundsUp};
 ghost use Rattle.std.specs.Prelude.{◌≡◌, ℕ, ℤ, pos, ◌≤ℤ◌, nat_abs};
 
 /// A way to round, up or down.
@@ -88,4 +88,47 @@ impl Direction for Up {
     }
 
     ghost laws = { ceil_is_direction };
+}
+
+/// What every direction keeps: its relation is reflexive, transitive and kept by adding, by
+/// scaling with a number that isn't negative and by maximum; a quotient times the base leans from
+/// the number and differs from it by less than the base; whole multiples of the base move out.
+pub fn direction_laws<R: Direction>()
+    ensures { IsDirection R.leans R.quotient }
+{
+}
+
+/// `floor` and `ceil` are the mathematical ones, also below zero: the greatest whole number that
+/// is at most the exact quotient, and the least that is at least it.
+pub fn rounding_laws()
+    ensures down { RoundsDown }
+    ensures up { RoundsUp }
+{
+}
+
+#[cfg(test)]
+mod tests {
+    use super::*;
+
+    #[test]
+    fn rounds_to_its_side_of_zero(rt: HostRuntime) {
+        assert_eq!(rt; [Up::div(-1, 2), Up::div(-3, 2), Up::div(4, 2)], [0, -1, 2]);
+        assert_eq!(rt; [Down::div(-1, 2), Down::div(-3, 2), Down::div(4, 2)], [-1, -2, 2]);
+        assert_eq!(rt; [Up::div_narrow(-1, 2), Up::div_narrow(-3, 2), Up::div_narrow(4, 2)], [0, -1, 2]);
+        assert_eq!(rt; [Down::div_narrow(-1, 2), Down::div_narrow(-3, 2), Down::div_narrow(4, 2)], [-1, -2, 2]);
+        assert_eq!(rt; [Up::div(i128::MIN, 1), Down::div(i128::MAX, i128::MAX)], [i128::MIN, 1]);
+    }
+
+    fn quotient<R: Direction>(num: i128, base: i128) -> i128
+        requires { pos 1 ≤ℤ base }
+    {
+        direction_laws::<R>();
+        R::div(num, base)
+    }
+
+    #[test]
+    fn rounds_through_the_bound(rt: HostRuntime) {
+        rounding_laws();
+        assert_eq!(rt; [quotient::<Up>(7, 2), quotient::<Down>(7, 2)], [4, 3]);
+    }
 }

@@ -1,5 +1,5 @@
 //! Money and prices as decimal text.
-ghost use Rattle.clr_num.specs.Money.{cents_text, money_text};
+ghost use Rattle.clr_num.specs.Money.{cents_text, money_text, CentsDetermine, MoneyDetermines};
 ghost use Rattle.std.specs.Prelude.{◌≡◌, ◌≤◌, ◌++◌, length, drop, codes, decimal, OnErr, OnOk};
 
 use itoa::Buffer;
@@ -35,6 +35,13 @@ pub fn print_cents(cents: u64, out: &mut Vec<u8>) -> Result<(), AllocError>
     print_parts(b"", (cents / 100) as u128, 100 + cents % 100, out)
 }
 
+/// A text of money tells the amount, and a text of a price the price.
+pub fn texts_determine_amounts()
+    ensures money { MoneyDetermines }
+    ensures cents { CentsDetermine }
+{
+}
+
 /// Appends a sign, a whole part, a point and the digits of `marked` after its first, which is
 /// there to keep the zeros that follow it. The memory is taken before the first byte.
 #[tactic(auto, using(std::proofs::lemmas::Fmt::decimal_nonempty))]
@@ -53,4 +60,55 @@ fn print_parts(sign: &[u8], whole: u128, marked: u64, out: &mut Vec<u8>) -> Resu
     out.extend_from_slice(whole_digits)?;
     out.push(b'.')?;
     out.extend_from_slice(&marked_digits[1..])
+}
+
+#[cfg(test)]
+mod tests {
+    use super::*;
+    use std::test::Fail;
+
+    #[test]
+    fn prints_money(rt: HostRuntime) -> Result<(), Fail> {
+        let cases = [
+            (0, "0.00000000"),
+            (-1, "-0.00000001"),
+            (99, "0.00000099"),
+            (100, "0.00000100"),
+            (-100_000_000, "-1.00000000"),
+            (123_456_789_012, "1234.56789012"),
+            (i128::MAX, "1701411834604692317316873037158.84105727"),
+            (i128::MIN, "-1701411834604692317316873037158.84105728"),
+        ];
+        for (units, text) in cases {
+            let mut out = Vec::new(rt.alloc());
+            print_money(units, &mut out)?;
+            assert_eq!(rt; out.as_slice(), text.as_bytes(), "{text}");
+        }
+        Ok(())
+    }
+
+    #[test]
+    fn prints_cents(rt: HostRuntime) -> Result<(), Fail> {
+        let cases = [
+            (0, "0.00"),
+            (99, "0.99"),
+            (100, "1.00"),
+            (1005, "10.05"),
+            (u64::MAX, "184467440737095516.15"),
+        ];
+        for (cents, text) in cases {
+            let mut out = Vec::new(rt.alloc());
+            print_cents(cents, &mut out)?;
+            assert_eq!(rt; out.as_slice(), text.as_bytes(), "{text}");
+        }
+        Ok(())
+    }
+
+    #[test]
+    fn appends(rt: HostRuntime) -> Result<(), Fail> {
+        let mut out = Vec::from_slice(rt.alloc(), b"price ")?;
+        print_cents(5, &mut out)?;
+        assert_eq!(rt; out.as_slice(), b"price 0.05".as_slice());
+        Ok(())
+    }
 }
