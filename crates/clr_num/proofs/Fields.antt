@@ -1,9 +1,9 @@
 -- Where a text is cut: a field whose bytes are all above a separator ends at the first separator.
-use Rattle.std.proofs.Common.{◌≡◌, ℕ, ◌+◌, ◌-◌, ◌*◌, ◌/◌, ◌%◌, ◌^◌, ◌<◌, ◌≤◌, List, [], ◌∷◌, ◌++◌, length, codes, decimal, refl, sym, ap, ◌∙◌, arith, ℤ, pos, negsuc, unsigned_abs, drop, zero, suc}
+use Rattle.std.proofs.Common.{◌≡◌, ℕ, ◌+◌, ◌/◌, ◌%◌, ◌^◌, ◌<◌, ◌≤◌, List, [], ◌∷◌, ◌++◌, decimal, refl, sym, ap, ◌∙◌, arith, zero, suc}
 use Rattle.std.specs.List.{AllByRecursion}
 use Rattle.std.specs.Str.Parse.{digits_value}
 use Rattle.std.proofs.lemmas.Fmt.{decimal_is_IsNumeral_wide, decimal_by_steps_wide, decimal_injective}
-use Rattle.clr_num.specs.Money.{padded, money_text, cents_text}
+use Rattle.clr_num.specs.Money.{padded}
 use Rattle.clr_num.proofs.Digits.{decimal-marked}
 
 -- every byte is above the given one

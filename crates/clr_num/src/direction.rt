@@ -44,21 +44,11 @@ impl Direction for Down {
     ghost quotient = { floor };
 
     fn div(num: i128, base: i128) -> i128 {
-        let quotient = num / base;
-        if num % base < 0 {
-            quotient - 1
-        } else {
-            quotient
-        }
+        num / base - i128::from(num % base < 0)
     }
 
     fn div_narrow(num: i64, base: i64) -> i64 {
-        let quotient = num / base;
-        if num % base < 0 {
-            quotient - 1
-        } else {
-            quotient
-        }
+        num / base - i64::from(num % base < 0)
     }
 
     ghost laws = { floor_is_direction };
@@ -70,21 +60,11 @@ impl Direction for Up {
     ghost quotient = { ceil };
 
     fn div(num: i128, base: i128) -> i128 {
-        let quotient = num / base;
-        if num % base > 0 {
-            quotient + 1
-        } else {
-            quotient
-        }
+        num / base + i128::from(num % base > 0)
     }
 
     fn div_narrow(num: i64, base: i64) -> i64 {
-        let quotient = num / base;
-        if num % base > 0 {
-            quotient + 1
-        } else {
-            quotient
-        }
+        num / base + i64::from(num % base > 0)
     }
 
     ghost laws = { ceil_is_direction };
@@ -95,16 +75,14 @@ impl Direction for Up {
 /// the number and differs from it by less than the base; whole multiples of the base move out.
 pub fn direction_laws<R: Direction>()
     ensures { IsDirection R.leans R.quotient }
-{
-}
+{}
 
 /// `floor` and `ceil` are the mathematical ones, also below zero: the greatest whole number that
 /// is at most the exact quotient, and the least that is at least it.
 pub fn rounding_laws()
     ensures down { RoundsDown }
     ensures up { RoundsUp }
-{
-}
+{}
 
 #[cfg(test)]
 mod tests {
@@ -113,10 +91,30 @@ mod tests {
     #[test]
     fn rounds_to_its_side_of_zero(rt: HostRuntime) {
         assert_eq!(rt; [Up::div(-1, 2), Up::div(-3, 2), Up::div(4, 2)], [0, -1, 2]);
-        assert_eq!(rt; [Down::div(-1, 2), Down::div(-3, 2), Down::div(4, 2)], [-1, -2, 2]);
-        assert_eq!(rt; [Up::div_narrow(-1, 2), Up::div_narrow(-3, 2), Up::div_narrow(4, 2)], [0, -1, 2]);
-        assert_eq!(rt; [Down::div_narrow(-1, 2), Down::div_narrow(-3, 2), Down::div_narrow(4, 2)], [-1, -2, 2]);
-        assert_eq!(rt; [Up::div(i128::MIN, 1), Down::div(i128::MAX, i128::MAX)], [i128::MIN, 1]);
+        assert_eq!(rt;
+            [Down::div(-1, 2), Down::div(-3, 2), Down::div(4, 2)],
+            [-1, -2, 2]
+        );
+        assert_eq!(rt;
+            [
+                Up::div_narrow(-1, 2),
+                Up::div_narrow(-3, 2),
+                Up::div_narrow(4, 2)
+            ],
+            [0, -1, 2]
+        );
+        assert_eq!(rt;
+            [
+                Down::div_narrow(-1, 2),
+                Down::div_narrow(-3, 2),
+                Down::div_narrow(4, 2)
+            ],
+            [-1, -2, 2]
+        );
+        assert_eq!(rt;
+            [Up::div(i128::MIN, 1), Down::div(i128::MAX, i128::MAX)],
+            [i128::MIN, 1]
+        );
     }
 
     fn quotient<R: Direction>(num: i128, base: i128) -> i128

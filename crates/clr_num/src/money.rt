@@ -39,8 +39,7 @@ pub fn print_cents(cents: u64, out: &mut Vec<u8>) -> Result<(), AllocError>
 pub fn texts_determine_amounts()
     ensures money { MoneyDetermines }
     ensures cents { CentsDetermine }
-{
-}
+{}
 
 /// Appends a sign, a whole part, a point and the digits of `marked` after its first, which is
 /// there to keep the zeros that follow it. The memory is taken before the first byte.
