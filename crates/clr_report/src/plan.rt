@@ -1,5 +1,5 @@
 //! The plan report.
-ghost use Rattle.clr_report.specs.PlanText.{path_line, plan_text, prices_line, revenue_line, season_line};
+ghost use Rattle.clr_report.specs.PlanText.{path_line, plan_text, prices_line, revenue_line, season_line, PlanTextDetermines};
 ghost use Rattle.clr_num.specs.Money.{cents_text, money_text};
 ghost use Rattle.std.specs.List.{flat_map};
 ghost use Rattle.std.specs.Prelude.{◌≡◌, ◌∷◌, ◌++◌, decimal, IfOk, OnOk};
@@ -43,6 +43,12 @@ pub fn plan_text(
     print_revenue(low, high, &mut text)?;
     Ok(text)
 }
+
+/// The text tells the sizes, the path, its prices and both ends of its revenue: no two plans have
+/// one text.
+pub fn plan_text_determines()
+    ensures { PlanTextDetermines }
+{}
 
 /// Appends the line on the sizes.
 fn print_season(sizes: PlanSizes, out: &mut Vec<u8>) -> Result<(), AllocError>
@@ -124,4 +130,48 @@ fn print_size(label: &[u8], size: u32, out: &mut Vec<u8>) -> Result<(), AllocErr
     let mut digits = Buffer::new();
     out.extend_from_slice(label)?;
     out.extend_from_slice(digits.format(size).as_bytes())
+}
+
+#[cfg(test)]
+mod tests {
+    use super::*;
+    use std::test::Fail;
+
+    #[test]
+    fn prints_the_smallest_plan(rt: HostRuntime) -> Result<(), Fail> {
+        plan_text_determines();
+        let sizes = PlanSizes {
+            stores: 1,
+            weeks: 1,
+            rungs: 1,
+            base: 4,
+        };
+        let text = plan_text(rt.alloc(), sizes, &[1], &[1000], 800_000_000, 800_000_000)?;
+        let want =
+            b"season 1 stores 1 weeks 1 rungs base 4\npath 1\nprices 10.00\nrevenue 8.00000000 8.00000000\n";
+        assert_eq!(rt; text.as_slice(), want.as_slice());
+        Ok(())
+    }
+
+    #[test]
+    fn prints_each_week(rt: HostRuntime) -> Result<(), Fail> {
+        let sizes = PlanSizes {
+            stores: 2,
+            weeks: 3,
+            rungs: 12,
+            base: 1_000_000,
+        };
+        let text = plan_text(
+            rt.alloc(),
+            sizes,
+            &[1, 2, 12],
+            &[2550, 1000, 5],
+            733_333_333,
+            733_333_334,
+        )?;
+        let want =
+            b"season 2 stores 3 weeks 12 rungs base 1000000\npath 1 2 12\nprices 25.50 10.00 0.05\nrevenue 7.33333333 7.33333334\n";
+        assert_eq!(rt; text.as_slice(), want.as_slice());
+        Ok(())
+    }
 }

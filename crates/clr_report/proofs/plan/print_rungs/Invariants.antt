@@ -1,6 +1,5 @@
 use Rattle.std.proofs.Common.{◌≡◌, ◌∷◌, ◌++◌, take, decimal}
 use Rattle.std.specs.List.{flat_map}
-use Rattle.clr_num.specs.Money.{cents_text}
 use Rattle.clr_report.proofs.plan.print_rungs.Given as goal
 
 abbrev pub invariant-loop-rung : goal.invariant-loop-rung
