@@ -1,14 +1,17 @@
 -- One cell of a row: what each step needs and gives.
-use Rattle.std.proofs.Common.{◌≡◌, ℕ, zero, suc, ◌+◌, ◌-◌, ◌*◌, ◌^◌, ◌≤◌, ◌<◌, min, ℤ, pos, ◌+ℤ◌, ◌*ℤ◌, List, length, get_or, arith, refl, ap, ap₂, sym, ◌∙◌, mul-add, add-mul, mul_comm, mul_left_comm, mul-le-mul_left, mul-le-mul_right, mul-le-mul, le_trans, SFits, to_z, set, ◌≢◌, get_or-set_other, get_or-set_same, below_more}
+use Rattle.std.proofs.Common.{sum, ◌≡◌, ℕ, zero, suc, ◌+◌, ◌-◌, ◌*◌, ◌^◌, ◌≤◌, ◌<◌, min, ℤ, pos, ◌+ℤ◌, ◌*ℤ◌, List, length, get_or, arith, refl, ap, ap₂, sym, ◌∙◌, mul-add, add-mul, mul_comm, mul_left_comm, mul-le-mul_left, mul-le-mul_right, mul-le-mul, le_trans, SFits, to_z, set, ◌≢◌, get_or-set_other, get_or-set_same, below_more}
 use Rattle.std.proofs.lemmas.Int.{ints}
 use mir.Syntax.{w64}
 use Rattle.clr_num.specs.Direction.{IsDirection}
 use Rattle.clr_average.specs.Average.{IsWithin, IsRow, mass, near, sold_mass, row_weighed}
-use Rattle.clr_average.proofs.Masses.{mass_le, sold_bound, sold_next}
+use Rattle.clr_average.proofs.Masses.{mass_is_sum, mass_le, sold_bound, sold_next}
 use Rattle.clr_average.proofs.Split.{row_split}
 use Rattle.clr_average.proofs.Within.{within_64, within_more, within_sum, within_pos, within_product, near_within, within_quotient}
 
 module _ (limit base gain reach : ℕ) (weights : List ℕ) (after : List ℤ) (is : IsRow limit base gain reach weights after) where
+  whole_mass : mass weights (length weights) ≡ base
+  whole_mass = mass_is_sum weights ∙ is.whole
+
   pub gain_read : 0 < length after → to_z w64 gain ≡ pos gain
   gain_read lt =
       let b : gain * 1 ≤ gain * length after = mul-le-mul_left gain (omega arith) in
@@ -32,17 +35,17 @@ module _ (limit base gain reach : ℕ) (weights : List ℕ) (after : List ℤ) (
   earned_size : (stock : ℕ) → gain * sold_mass weights stock (length weights) ≤ base * (gain * stock)
   earned_size stock =
       let p : sold_mass weights stock (length weights) ≤ mass weights (length weights) * stock = sold_bound weights stock (length weights) in
-      let q : gain * sold_mass weights stock (length weights) ≤ gain * (base * stock) = mul-le-mul_left gain (rw is.whole at p) in
+      let q : gain * sold_mass weights stock (length weights) ≤ gain * (base * stock) = mul-le-mul_left gain (rw whole_mass at p) in
       let e : gain * (base * stock) ≡ base * (gain * stock) = mul_left_comm gain base stock in
       omega arith
 
   part_mass : (count : ℕ) → count ≤ length weights → mass weights count * reach ≤ base * reach
-  part_mass count le = let p : mass weights count ≤ mass weights (length weights) = mass_le weights count (length weights) le in mul-le-mul_right reach (rw is.whole at p)
+  part_mass count le = let p : mass weights count ≤ mass weights (length weights) = mass_le weights count (length weights) le in mul-le-mul_right reach (rw whole_mass at p)
 
   pub product_fits : (stock : ℕ) → stock < length after → (k : ℕ) → k < min (length weights) (stock + 1) → IsWithin limit (pos (get_or weights k 0) *ℤ get_or after (stock - k) (pos 0))
   product_fits stock lt k h =
       let p : mass weights (suc k) ≤ mass weights (length weights) = mass_le weights (suc k) (length weights) (omega arith) in
-      let whole : mass weights (length weights) ≡ base = is.whole in
+      let whole : mass weights (length weights) ≡ base = whole_mass in
       let w : get_or weights k 0 ≤ base = omega arith in
       within_more (get_or weights k 0 * reach) limit (pos (get_or weights k 0) *ℤ get_or after (stock - k) (pos 0))
       (within_product (get_or weights k 0) reach (get_or after (stock - k) (pos 0)) (is.values (stock - k) (omega arith)))
@@ -59,7 +62,7 @@ module _ (limit base gain reach : ℕ) (weights : List ℕ) (after : List ℤ) (
       (part_fits (base * (gain * stock) + mass weights k * reach) (omega arith)))
 
   tail_le : (tail stock : ℕ) → mass weights (length weights) ≡ tail + mass weights (min (stock + 1) (length weights)) → tail ≤ base
-  tail_le tail stock e = let w : mass weights (length weights) ≡ base = is.whole in omega arith
+  tail_le tail stock e = let w : mass weights (length weights) ≡ base = whole_mass in omega arith
 
   pub far_fits : (tail stock : ℕ) (value : ℤ) → 0 < length after → value ≡ get_or after 0 (pos 0) → mass weights (length weights) ≡ tail + mass weights (min (stock + 1) (length weights)) → IsWithin limit (pos tail *ℤ value)
   far_fits tail stock value lt v e =
@@ -84,7 +87,7 @@ module _ (limit base gain reach : ℕ) (weights : List ℕ) (after : List ℤ) (
           let a : gain * sold_mass weights stock (length weights) ≤ base * (gain * stock) = earned_size stock in
           let all : base * (gain * stock) + base * reach ≤ base * (gain * length after + reach) = both_fit stock (omega arith) in
           let parts : (mass weights (min (stock + 1) (length weights)) + tail) * reach ≡ mass weights (min (stock + 1) (length weights)) * reach + tail * reach = add-mul (mass weights (min (stock + 1) (length weights))) tail reach in
-          let whole : mass weights (min (stock + 1) (length weights)) + tail ≡ base = let w : mass weights (length weights) ≡ base = is.whole in omega arith in
+          let whole : mass weights (min (stock + 1) (length weights)) + tail ≡ base = let w : mass weights (length weights) ≡ base = whole_mass in omega arith in
           let scaled : (mass weights (min (stock + 1) (length weights)) + tail) * reach ≡ base * reach = ap (λ t. t * reach) whole in
           rw (row_split weights gain after stock tail e)
           (within_more ((base * (gain * stock) + mass weights (min (length weights) (stock + 1)) * reach) + tail * reach) (base * (gain * length after + reach))
@@ -131,8 +134,8 @@ row_more out stock value f lt here before =
     (λ k h. let ne : k ≢ stock = omega arith in rw get_or-set_other (before k h))
     (rw get_or-set_same here)
 
-pub start_tail : (weights : List ℕ) (base : ℕ) → mass weights (length weights) ≡ base → mass weights (length weights) ≡ base + mass weights (min 0 (length weights))
-start_tail weights base e = let none : min 0 (length weights) ≡ 0 = omega arith in rw none (omega arith)
+pub start_tail : (weights : List ℕ) (base : ℕ) → sum weights ≡ base → mass weights (length weights) ≡ base + mass weights (min 0 (length weights))
+start_tail weights base e = let whole : mass weights (length weights) ≡ base = mass_is_sum weights ∙ e in let none : min 0 (length weights) ≡ 0 = omega arith in rw none (omega arith)
 
 sold_none : (weights : List ℕ) (count : ℕ) → sold_mass weights 0 count ≡ 0
 sold_none weights zero = refl
@@ -146,7 +149,7 @@ pub start_earned : (gain : ℕ) (weights : List ℕ) (count : ℕ) → pos 0 ≡
 start_earned gain weights count = let none : gain * 0 ≡ 0 = omega arith in ap pos (sym (ap (λ t. gain * t) (sold_none weights count) ∙ none))
 
 -- within the limits of a season 128 bits hold each sum
-pub wide_row : (base gain reach : ℕ) (weights : List ℕ) (after : List ℤ) → 1 ≤ base → base ≤ 1000000 → gain ≤ 10000000000000 → length after ≤ 2001 → reach ≤ 1000000000000000000 → mass weights (length weights) ≡ base →
+pub wide_row : (base gain reach : ℕ) (weights : List ℕ) (after : List ℤ) → 1 ≤ base → base ≤ 1000000 → gain ≤ 10000000000000 → length after ≤ 2001 → reach ≤ 1000000000000000000 → sum weights ≡ base →
     ((k : ℕ) → k < length after → IsWithin reach (get_or after k (pos 0))) → IsRow (2 ^ 127 - 1) base gain reach weights after
 wide_row base gain reach weights after some top_base top_gain size top_reach whole values =
     let earned : gain * length after ≤ 10000000000000 * 2001 = mul-le-mul top_gain size in

@@ -1,7 +1,16 @@
 -- Sums of weights.
-use Rattle.std.proofs.Common.{◌≡◌, ℕ, zero, suc, ◌+◌, ◌-◌, ◌*◌, ◌≤◌, ◌<◌, min, List, get_or, arith, mul-suc, add-mul, mul-le-mul_left, inl, inr}
+use Rattle.std.proofs.Common.{[], ◌∷◌, sum, length, ◌∙◌, ◌≡◌, ℕ, zero, suc, ◌+◌, ◌-◌, ◌*◌, ◌≤◌, ◌<◌, min, List, get_or, arith, mul-suc, add-mul, mul-le-mul_left, inl, inr}
 use Rattle.std.proofs.lemmas.Bool.{cases_lt}
 use Rattle.clr_average.specs.Average.{mass, sold_mass}
+
+mass-cons : (weight : ℕ) (weights : List ℕ) (count : ℕ) → mass (weight ∷ weights) (suc count) ≡ weight + mass weights count
+mass-cons weight weights zero = omega arith
+mass-cons weight weights (suc count) = let rest : mass (weight ∷ weights) (suc count) ≡ weight + mass weights count = mass-cons weight weights count in omega arith
+
+-- all weights together
+pub mass_is_sum : (weights : List ℕ) → mass weights (length weights) ≡ sum weights
+mass_is_sum [] = refl
+mass_is_sum (weight ∷ weights) = mass-cons weight weights (length weights) ∙ ap (λ t. weight + t) (mass_is_sum weights)
 
 pub mass_more : (weights : List ℕ) (count more : ℕ) → mass weights count ≤ mass weights (count + more)
 mass_more weights count zero = let e : count + 0 ≡ count = omega arith in rw e (omega arith)

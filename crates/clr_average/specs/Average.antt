@@ -1,5 +1,5 @@
 -- The averages of a row: one number for each stock from 0 up.
-use Rattle.std.specs.Prelude.{◌≡◌, ℕ, ◌<◌, ◌^◌, zero, suc, ◌+◌, ◌-◌, ◌*◌, ◌≤◌, min, ℤ, pos, neg_ℤ, ◌+ℤ◌, ◌*ℤ◌, ◌≤ℤ◌, List, length, get_or}
+use Rattle.std.specs.Prelude.{sum, ◌≡◌, ℕ, ◌<◌, ◌^◌, zero, suc, ◌+◌, ◌-◌, ◌*◌, ◌≤◌, min, ℤ, pos, neg_ℤ, ◌+ℤ◌, ◌*ℤ◌, ◌≤ℤ◌, List, length, get_or}
 use Rattle.clr_num.specs.Lists.{numbers}
 use Rattle.clr_num.specs.Sums.{sum_over}
 
@@ -31,7 +31,7 @@ row_weighed weights gain after stock =
 -- weights that sum to the base, values no larger than a reach, and sums within the limit
 pub record IsRow (limit base gain reach : ℕ) (weights : List ℕ) (after : List ℤ) : Type 0 where
   pub some : 1 ≤ base
-  pub whole : mass weights (length weights) ≡ base
+  pub whole : sum weights ≡ base
   pub values : (k : ℕ) → k < length after → IsWithin reach (get_or after k (pos 0))
   pub fits : base * (gain * length after + reach) ≤ limit
   pub small : gain * length after + reach < 2 ^ 63

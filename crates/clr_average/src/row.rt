@@ -1,5 +1,5 @@
 ghost use Rattle.clr_average.specs.Average.{IsRow, IsWithin, mass, near, row_weighed};
-ghost use Rattle.std.specs.Prelude.{◌≡◌, ℕ, ◌≤◌, ◌<◌, ◌-◌, ◌+◌, ◌*◌, ◌^◌, min, ℤ, pos, ◌+ℤ◌, ◌-ℤ◌, ◌*ℤ◌, IsTrue, length, get_or, EachIndex};
+ghost use Rattle.std.specs.Prelude.{sum, ◌≡◌, ℕ, ◌≤◌, ◌<◌, ◌-◌, ◌+◌, ◌*◌, ◌^◌, min, ℤ, pos, ◌+ℤ◌, ◌-ℤ◌, ◌*ℤ◌, IsTrue, length, get_or, EachIndex};
 
 use crate::total::Total;
 use clr_num::Direction;
@@ -91,7 +91,7 @@ pub fn average_values<R: Direction>(
     requires gain { gain ≤ 10000000000000 }
     requires size { length after.now ≤ 2001 }
     requires reach { reach ≤ 1000000000000000000 }
-    requires weights { mass weights.now (length weights.now) ≡ base }
+    requires weights { sum weights.now ≡ base }
     requires values { EachIndex after.now (λ k. IsWithin reach (get_or after.now k (pos 0))) }
     ensures { EachIndex out.new (λ k. get_or out.new k (pos 0) ≡ R.quotient (row_weighed weights.now gain after.now k) base) }
 {
