@@ -1,6 +1,7 @@
 -- Sums of weights.
-use Rattle.std.proofs.Common.{[], ◌∷◌, sum, length, ◌∙◌, ◌≡◌, ℕ, zero, suc, ◌+◌, ◌-◌, ◌*◌, ◌≤◌, ◌<◌, min, List, get_or, arith, mul-suc, add-mul, mul-le-mul_left, inl, inr}
+use Rattle.std.proofs.Common.{[], ◌∷◌, sum, length, ap, refl, sym, ◌∙◌, ◌≡◌, ℕ, zero, suc, ◌+◌, ◌-◌, ◌*◌, ◌≤◌, ◌<◌, min, List, get_or, arith, mul-suc, add-mul, mul-le-mul_left, inl, inr}
 use Rattle.std.proofs.lemmas.Bool.{cases_lt}
+use Rattle.std.proofs.lemmas.List.Sums.{sum_by-cons}
 use Rattle.clr_average.specs.Average.{mass, sold_mass}
 
 mass-cons : (weight : ℕ) (weights : List ℕ) (count : ℕ) → mass (weight ∷ weights) (suc count) ≡ weight + mass weights count
@@ -10,7 +11,9 @@ mass-cons weight weights (suc count) = let rest : mass (weight ∷ weights) (suc
 -- all weights together
 pub mass_is_sum : (weights : List ℕ) → mass weights (length weights) ≡ sum weights
 mass_is_sum [] = refl
-mass_is_sum (weight ∷ weights) = mass-cons weight weights (length weights) ∙ ap (λ t. weight + t) (mass_is_sum weights)
+mass_is_sum (weight ∷ weights) =
+    let size : length (weight ∷ weights) ≡ suc (length weights) = omega arith in
+    ap (mass (weight ∷ weights)) size ∙ (mass-cons weight weights (length weights) ∙ (ap (λ t. weight + t) (mass_is_sum weights) ∙ sym (sum_by-cons (λ w. w) weight weights)))
 
 pub mass_more : (weights : List ℕ) (count more : ℕ) → mass weights count ≤ mass weights (count + more)
 mass_more weights count zero = let e : count + 0 ≡ count = omega arith in rw e (omega arith)
