@@ -46,38 +46,35 @@ near_within weights after stock reach (suc count) h lt =
     (within_sum (mass weights count * reach) (get_or weights count 0 * reach) (near weights after stock count) (pos (get_or weights count 0) *ℤ get_or after (stock - count) (pos 0)) (near_within weights after stock reach count h lt)
     (within_product (get_or weights count 0) reach (get_or after (stock - count) (pos 0)) (h (stock - count) (omega arith))))
 
--- an average is no larger than what is averaged
-pub within_quotient : (leans : ℤ → ℤ → Type 0) (div : ℤ → ℕ → ℤ) → IsDirection leans div → (n : ℤ) (base size : ℕ) → 1 ≤ base → IsWithin (base * size) n → IsWithin size (div n base)
-within_quotient leans div laws n base size some h = record { low = low; high = high }
-  where
-    above : n <ℤ (div n base *ℤ pos base +ℤ pos base)
-    above = laws.above n base some
+-- ---- averages, rounded in a direction
 
-    below : (div n base *ℤ pos base) <ℤ (n +ℤ pos base)
-    below = laws.below n base some
+module _ (leans : ℤ → ℤ → Type 0) (div : ℤ → ℕ → ℤ) (laws : IsDirection leans div) where
 
-    least : neg_ℤ (pos (base * size)) ≤ℤ n
-    least = h.low
+  parts : (base size : ℕ) → (size + 1) * base ≡ base * size + base
+  parts base size = add-mul size 1 base ∙ ap (λ t. t + 1 * base) (mul_comm size base) ∙ ap (λ t. base * size + t) (omega arith)
 
-    most : n ≤ℤ pos (base * size)
-    most = h.high
+  -- an average of numbers that are at most a whole number is at most it
+  pub quotient_high : (n : ℤ) (base size : ℕ) → 1 ≤ base → n ≤ℤ pos (base * size) → div n base ≤ℤ pos size
+  quotient_high n base size some most = by_lt_z (pos size) (div n base) (λ lt. too_high (div n base) (laws.below n base some) most (omega (arith, linear))) (λ le. le)
+    where
+      too_high : (q : ℤ) → (q *ℤ pos base) <ℤ (n +ℤ pos base) → n ≤ℤ pos (base * size) → pos (size + 1) ≤ℤ q → q ≤ℤ pos size
+      too_high q b m lt =
+          let scaled : pos ((size + 1) * base) ≤ℤ (q *ℤ pos base) = scale_le_right base (pos (size + 1)) q lt in
+          let split : (size + 1) * base ≡ base * size + base = parts base size in
+          absurd (omega (arith, linear))
 
-    too_high : (q : ℤ) → (q *ℤ pos base) <ℤ (n +ℤ pos base) → n ≤ℤ pos (base * size) → pos (size + 1) ≤ℤ q → q ≤ℤ pos size
-    too_high q b m lt =
-        let scaled : pos ((size + 1) * base) ≤ℤ (q *ℤ pos base) = scale_le_right base (pos (size + 1)) q lt in
-        let split : (size + 1) * base ≡ base * size + base = add-mul size 1 base ∙ ap (λ t. t + 1 * base) (mul_comm size base) ∙ ap (λ t. base * size + t) (omega arith) in
-        absurd (omega (arith, linear))
+  -- of numbers that are at least one, at least it
+  pub quotient_low : (n : ℤ) (base size : ℕ) → 1 ≤ base → neg_ℤ (pos (base * size)) ≤ℤ n → neg_ℤ (pos size) ≤ℤ div n base
+  quotient_low n base size some least = by_lt_z (div n base) (neg_ℤ (pos size)) (λ lt. too_low (div n base) (laws.above n base some) least (omega (arith, linear))) (λ le. le)
+    where
+      too_low : (q : ℤ) → n <ℤ (q *ℤ pos base +ℤ pos base) → neg_ℤ (pos (base * size)) ≤ℤ n → (q +ℤ pos (size + 1)) ≤ℤ pos 0 → neg_ℤ (pos size) ≤ℤ q
+      too_low q a l le =
+          let scaled : ((q +ℤ pos (size + 1)) *ℤ pos base) ≤ℤ pos (0 * base) = scale_le_right base (q +ℤ pos (size + 1)) (pos 0) le in
+          let split : (q +ℤ pos (size + 1)) *ℤ pos base ≡ q *ℤ pos base +ℤ pos ((size + 1) * base) = add_mul q (pos (size + 1)) (pos base) in
+          let count : (size + 1) * base ≡ base * size + base = parts base size in
+          let e : pos ((size + 1) * base) ≡ pos (base * size) +ℤ pos base = ap pos count in
+          absurd (omega (arith, linear))
 
-    high : div n base ≤ℤ pos size
-    high = by_lt_z (pos size) (div n base) (λ lt. too_high (div n base) below most (omega (arith, linear))) (λ le. le)
-
-    too_low : (q : ℤ) → n <ℤ (q *ℤ pos base +ℤ pos base) → neg_ℤ (pos (base * size)) ≤ℤ n → (q +ℤ pos (size + 1)) ≤ℤ pos 0 → neg_ℤ (pos size) ≤ℤ q
-    too_low q a l le =
-        let scaled : ((q +ℤ pos (size + 1)) *ℤ pos base) ≤ℤ pos (0 * base) = scale_le_right base (q +ℤ pos (size + 1)) (pos 0) le in
-        let split : (q +ℤ pos (size + 1)) *ℤ pos base ≡ q *ℤ pos base +ℤ pos ((size + 1) * base) = add_mul q (pos (size + 1)) (pos base) in
-        let count : (size + 1) * base ≡ base * size + base = add-mul size 1 base ∙ ap (λ t. t + 1 * base) (mul_comm size base) ∙ ap (λ t. base * size + t) (omega arith) in
-        let e : pos ((size + 1) * base) ≡ pos (base * size) +ℤ pos base = ap pos count in
-        absurd (omega (arith, linear))
-
-    low : neg_ℤ (pos size) ≤ℤ div n base
-    low = by_lt_z (div n base) (neg_ℤ (pos size)) (λ lt. too_low (div n base) above least (omega (arith, linear))) (λ le. le)
+  -- an average is no larger than what is averaged
+  pub within_quotient : (n : ℤ) (base size : ℕ) → 1 ≤ base → IsWithin (base * size) n → IsWithin size (div n base)
+  within_quotient n base size some h = record { low = quotient_low n base size some h.low; high = quotient_high n base size some h.high }
