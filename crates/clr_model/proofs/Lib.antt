@@ -1,0 +1,3 @@
+pub mod Ladders
+pub mod Rows
+pub mod Sizes

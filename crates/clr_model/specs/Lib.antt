@@ -1,0 +1,3 @@
+pub mod Revenue
+pub mod PathValue
+pub mod Weights

@@ -1,0 +1,11 @@
+//! The definitions of what a season's policies and paths earn, and what the recursions over its weeks share.
+//!
+//! Stores, weeks and rungs are counted from 1, stocks and demands from 0. Values are in units, of which a cent
+//! has 10^6, and each is a whole number.
+#![tactic(auto)]
+
+mod path;
+mod week;
+
+pub use path::Path;
+pub use week::{CENT, average_week, relabelling};
