@@ -40,6 +40,13 @@ impl Path {
         self.rungs.len() as u32
     }
 
+    /// The rungs of the weeks, from week 1.
+    pub fn rungs(&self) -> &[u32]
+        ensures { result.now ≡ self.now }
+    {
+        &self.rungs
+    }
+
     /// The rung of a week, both counted from 1.
     pub fn rung(&self, week: u32) -> u32
         requires low { 1 ≤ week }

@@ -1,11 +1,17 @@
 -- The plan report tells its numbers.
-use Rattle.std.proofs.Common.{◌≡◌, ℕ, ◌<◌, ◌≤◌, ◌^◌, suc, List, [], ◌∷◌, ◌++◌, map, All, unsigned_abs, decimal, refl, sym, ap, ◌∙◌, arith, append_assoc, ℤ, codes}
-use Rattle.std.proofs.lemmas.List.{append-nil}
+use Rattle.std.proofs.Common.{◌≡◌, ℕ, ◌<◌, ◌≤◌, ◌^◌, suc, List, [], ◌∷◌, ◌++◌, map, All, unsigned_abs, decimal, refl, sym, ap, ◌∙◌, arith, append_assoc, ℤ, codes, zero, length, get_or}
+use Rattle.std.proofs.lemmas.Int.{ints}
+use Rattle.std.proofs.lemmas.List.{append-nil, get_or_default}
 use Rattle.clr_num.specs.Money.{cents_text, money_text}
 use Rattle.clr_num.proofs.Fields.{Above, above_lower, above-decimal, decimal_wide_injective}
 use Rattle.clr_num.proofs.MoneyTexts.{money_determines, cents_determine, above-money, above-cents}
 use Rattle.clr_report.specs.declared.plan.PlanSizes.{PlanSizes}
-use Rattle.clr_report.specs.PlanText.{season_line, path_line, prices_line, revenue_line, PlanTextDetermines}
+use Rattle.clr_report.specs.PlanText.{season_line, path_line, prices_line, revenue_line, sizes_of, FitsPlan, IsPlanOf, PlanLinesDetermine, PlanTextDetermines}
+use Rattle.clr_num.specs.Prices.{IsLadder}
+use Rattle.clr_average.specs.Average.{IsWithin}
+use Rattle.clr_rules.specs.Rules.{IsPath, Rulebook, price}
+use Rattle.clr_season.specs.Season.{Season, IsSeason}
+use Rattle.clr_model.proofs.Ladders.{path_on_ladder}
 use Rattle.clr_report.proofs.Cuts.{AreWords, cut_line}
 
 -- ---- one kind of word, and its list
@@ -76,8 +82,8 @@ same_first x y xs ys e = cc
 same_rest : (x y : List ℕ) (xs ys : List (List ℕ)) → x ∷ xs ≡ y ∷ ys → xs ≡ ys
 same_rest x y xs ys e = cc
 
-pub plan_determines : PlanTextDetermines
-plan_determines s t rungs path prices costs low high least most h k e =
+plan_lines_determine : PlanLinesDetermine
+plan_lines_determine s t rungs path prices costs low high least most h k e =
     let whole = sym (in_a_row (season_line s) (path_line rungs) (prices_line prices) (revenue_line low high)) ∙ (e ∙ in_a_row (season_line t) (path_line path) (prices_line costs) (revenue_line least most)) in
     let one : FitSizes s = record { stores = h.stores; weeks = h.weeks; ladder = h.ladder; base = h.base } in
     let two : FitSizes t = record { stores = k.stores; weeks = k.weeks; ladder = k.ladder; base = k.base } in
@@ -92,3 +98,49 @@ plan_determines s t rungs path prices costs low high least most h k e =
       money_determines low least h.least k.least (same_first (money_text low) (money_text least) (money_text high ∷ []) (money_text most ∷ []) ends),
       money_determines high most h.most k.most (same_first (money_text high) (money_text most) [] [] (same_rest (money_text low) (money_text least) (money_text high ∷ []) (money_text most ∷ []) ends)),
     )
+
+-- ---- for one season
+
+-- rungs of a ladder fit their type
+rungs_fit : (book : Rulebook) (path : List ℕ) → IsLadder book.prices → IsPath book path → All (λ rung. rung < 2 ^ 32) path
+rungs_fit book path ladder is = λ k d lt.
+    let same : get_or path k d ≡ get_or path k 1 = get_or_default path k d 1 lt in
+    let high : get_or path k 1 ≤ length book.prices = (path_on_ladder book path is k lt).1 in
+    let few : length book.prices ≤ 12 = ladder.few in
+    omega (arith, same, high, few)
+
+small_at : (xs : List ℕ) → ((i : ℕ) → i < length xs → get_or xs i 0 ≤ 10000000) → (i : ℕ) → get_or xs i 0 ≤ 10000000
+small_at [] h i = omega arith
+small_at (x ∷ xs) h zero = h 0 (omega arith)
+small_at (x ∷ xs) h (suc i) = small_at xs (λ j lt. h (suc j) (omega arith)) i
+
+price_small : (book : Rulebook) → IsLadder book.prices → (rung : ℕ) → price book rung ≤ 10000000
+price_small book ladder zero = omega arith
+price_small book ladder (suc i) = small_at book.prices ladder.most i
+
+prices_fit : (book : Rulebook) → IsLadder book.prices → (path : List ℕ) → All (λ price. price < 2 ^ 64) (map (price book) path)
+prices_fit book ladder [] = λ k d lt. absurd (omega arith)
+prices_fit book ladder (rung ∷ path) = elim [
+  | zero ↦ λ d lt. let small : price book rung ≤ 10000000 = price_small book ladder rung in omega (arith, small)
+  | suc k ↦ λ d lt. prices_fit book ladder path k d (omega arith)
+]
+
+money_fits : (z : ℤ) → IsWithin 100000000000000000000 z → unsigned_abs z ≤ 2 ^ 127
+money_fits z h = let low = h.low in let high = h.high in omega (arith, ints, low, high)
+
+fits : (season : Season) (path : List ℕ) (low high : ℤ) → IsSeason season → IsPlanOf season path low high → FitsPlan (sizes_of season) path (map (price season.rules) path) low high
+fits season path low high is plan = record {
+  stores = let few = is.stores.few in omega (arith, few);
+  weeks = let few = is.rules.last_week in omega (arith, few);
+  ladder = let few = is.rules.ladder.few in omega (arith, few);
+  base = let most = is.most_base in omega (arith, most);
+  path = rungs_fit season.rules path is.rules.ladder plan.path;
+  cents = prices_fit season.rules is.rules.ladder path;
+  least = money_fits low plan.low;
+  most = money_fits high plan.high;
+}
+
+pub plan_determines : PlanTextDetermines
+plan_determines season path other low high least most is one two same =
+    let all = plan_lines_determine (sizes_of season) (sizes_of season) path other (map (price season.rules) path) (map (price season.rules) other) low high least most (fits season path low high is one) (fits season other least most is two) same in
+    (all.1, all.3, all.4)

@@ -1,6 +1,9 @@
 -- The first lines of the plan report: the sizes, the path, its prices and its revenue.
-use Rattle.std.specs.Prelude.{◌≡◌, ℕ, ◌^◌, ◌<◌, ◌≤◌, List, [], ◌∷◌, ◌++◌, map, All, ℤ, unsigned_abs, codes, decimal}
+use Rattle.std.specs.Prelude.{◌≡◌, length, ℕ, ◌^◌, ◌<◌, ◌≤◌, List, [], ◌∷◌, ◌++◌, map, All, ℤ, unsigned_abs, codes, decimal}
 use Rattle.clr_num.specs.Money.{cents_text, money_text}
+use Rattle.clr_average.specs.Average.{IsWithin}
+use Rattle.clr_rules.specs.Rules.{IsPath, price}
+use Rattle.clr_season.specs.Season.{Season, IsSeason}
 use Rattle.clr_report.specs.declared.plan.PlanSizes.{PlanSizes}
 use Rattle.clr_report.specs.Lines.{line}
 
@@ -21,8 +24,28 @@ abbrev pub revenue_line : ℤ → ℤ → List ℕ
 revenue_line low high = line (codes "revenue" ∷ money_text low ∷ money_text high ∷ [])
 
 -- the four lines
-abbrev pub plan_text : PlanSizes → List ℕ → List ℕ → ℤ → ℤ → List ℕ
-plan_text sizes rungs prices low high = season_line sizes ++ path_line rungs ++ prices_line prices ++ revenue_line low high
+abbrev pub plan_lines : PlanSizes → List ℕ → List ℕ → ℤ → ℤ → List ℕ
+plan_lines sizes rungs prices low high = season_line sizes ++ path_line rungs ++ prices_line prices ++ revenue_line low high
+
+-- the sizes of a season
+abbrev pub sizes_of : Season → PlanSizes
+sizes_of season = record { stores = length season.stores; weeks = season.rules.weeks; rungs = length season.rules.prices; base = season.base }
+
+-- the report on a path of a season, with the two ends of its revenue in units of 10^-8 of the currency
+abbrev pub plan_text : Season → List ℕ → ℤ → ℤ → List ℕ
+plan_text season path low high = plan_lines (sizes_of season) path (map (price season.rules) path) low high
+
+-- a path of the season, and money of at most 10^20 units in size
+pub record IsPlanOf (season : Season) (rungs : List ℕ) (least most : ℤ) : Type 0 where
+  pub path : IsPath season.rules rungs
+  pub low : IsWithin 100000000000000000000 least
+  pub high : IsWithin 100000000000000000000 most
+
+-- For one season the report determines the path and both numbers.
+abbrev pub PlanTextDetermines : Type 0
+PlanTextDetermines =
+    (season : Season) (path other : List ℕ) (low high least most : ℤ) → IsSeason season → IsPlanOf season path low high → IsPlanOf season other least most →
+    plan_text season path low high ≡ plan_text season other least most → (path ≡ other) × (low ≡ least) × (high ≡ most)
 
 -- the numbers of a plan are in the ranges of their types
 pub record FitsPlan (sizes : PlanSizes) (rungs prices : List ℕ) (low high : ℤ) : Type 0 where
@@ -35,6 +58,6 @@ pub record FitsPlan (sizes : PlanSizes) (rungs prices : List ℕ) (low high : �
   pub least : unsigned_abs low ≤ 2 ^ 127
   pub most : unsigned_abs high ≤ 2 ^ 127
 
--- a text tells the sizes, the path, its prices and both ends of its revenue
-abbrev pub PlanTextDetermines : Type 0
-PlanTextDetermines = (sizes others : PlanSizes) (rungs path prices costs : List ℕ) (low high least most : ℤ) → FitsPlan sizes rungs prices low high → FitsPlan others path costs least most → plan_text sizes rungs prices low high ≡ plan_text others path costs least most → (sizes ≡ others) × (rungs ≡ path) × (prices ≡ costs) × (low ≡ least) × (high ≡ most)
+-- the lines tell the sizes, the path, its prices and both ends of its revenue
+abbrev pub PlanLinesDetermine : Type 0
+PlanLinesDetermine = (sizes others : PlanSizes) (rungs path prices costs : List ℕ) (low high least most : ℤ) → FitsPlan sizes rungs prices low high → FitsPlan others path costs least most → plan_lines sizes rungs prices low high ≡ plan_lines others path costs least most → (sizes ≡ others) × (rungs ≡ path) × (prices ≡ costs) × (low ≡ least) × (high ≡ most)

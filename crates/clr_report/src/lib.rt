@@ -5,4 +5,4 @@ mod note;
 mod plan;
 
 pub use note::{Cause, Doc, note_text};
-pub use plan::{PlanSizes, plan_text, plan_text_determines};
+pub use plan::{PlanFacts, plan_text, plan_text_determines};

@@ -1,16 +1,19 @@
 //! The plan report.
-ghost use Rattle.clr_report.specs.PlanText.{path_line, plan_text, prices_line, revenue_line, season_line, PlanTextDetermines};
+ghost use Rattle.clr_report.specs.PlanText.{path_line, plan_lines, plan_text, prices_line, revenue_line, season_line, IsPlanOf, PlanTextDetermines};
+ghost use Rattle.clr_rules.specs.Rules.{IsPath, price};
 ghost use Rattle.clr_num.specs.Money.{cents_text, money_text};
 ghost use Rattle.std.specs.List.{flat_map};
-ghost use Rattle.std.specs.Prelude.{◌≡◌, ◌∷◌, ◌++◌, decimal, IfOk, OnOk};
+ghost use Rattle.std.specs.Prelude.{◌≡◌, ◌∷◌, ◌++◌, decimal, map, IfOk, OnOk};
 
+use clr_model::Path;
+use clr_season::Season;
 use clr_num::{print_cents, print_money};
 use itoa::Buffer;
 use std::alloc::{AllocError, Global};
 
 /// How large a season is, and the base of its weights.
 #[derive(Clone, Copy)]
-pub struct PlanSizes {
+pub(crate) struct PlanSizes {
     /// The number of stores.
     pub stores: u32,
     /// The number of weeks.
@@ -21,12 +24,67 @@ pub struct PlanSizes {
     pub base: u32,
 }
 
-/// The lines of the plan report on the sizes, the path, its prices and its revenue.
+/// What a plan report tells of a season's path.
+#[derive(Drop)]
+pub struct PlanFacts {
+    /// The rung of each week.
+    pub path: Path,
+    /// The path's value rounded down, in units of 10^-8 of the currency.
+    pub low: i128,
+    /// The path's value rounded up.
+    pub high: i128,
+}
+
+/// The first lines of the plan report: the season's sizes, the path, its prices and its revenue.
+///
+/// Each line ends with one line feed. The only error is want of memory.
+pub fn plan_text(
+    alloc: Global,
+    season: &Season,
+    facts: &PlanFacts,
+) -> Result<Vec<u8>, AllocError>
+    requires { IsPlanOf season.now facts.now.path facts.now.low facts.now.high }
+    ensures { IfOk result (λ text. text.items ≡ plan_text season.now facts.now.path facts.now.low facts.now.high) }
+{
+    let sizes = PlanSizes {
+        stores: season.stores(),
+        weeks: season.weeks(),
+        rungs: season.rungs(),
+        base: season.base(),
+    };
+    let prices = week_prices(alloc, season, &facts.path)?;
+    plan_lines(
+        alloc,
+        sizes,
+        facts.path.rungs(),
+        &prices,
+        facts.low,
+        facts.high,
+    )
+}
+
+/// For one season the report determines the path and both numbers.
+pub fn plan_text_determines()
+    ensures { PlanTextDetermines }
+{}
+
+/// The price of each week in cents.
+fn week_prices(alloc: Global, season: &Season, path: &Path) -> Result<Vec<u64>, AllocError>
+    requires { IsPath season.now.rules path.now }
+    ensures { IfOk result (λ prices. prices.items ≡ map (price season.now.rules) path.now) }
+{
+    let mut prices = Vec::with_capacity(alloc, path.len() as usize)?;
+    for rung in path.rungs() {
+        prices.push(season.price(*rung))?;
+    }
+    Ok(prices)
+}
+
+/// The lines on the sizes, the path, its prices and its revenue.
 ///
 /// `rungs` has the rung of each week, from 1, and `prices` the price of each week in cents.
 /// `low` and `high` are the ends of the path's revenue, in units of 10^-8 of the currency.
-/// Each line ends with one line feed. The only error is want of memory.
-pub fn plan_text(
+fn plan_lines(
     alloc: Global,
     sizes: PlanSizes,
     rungs: &[u32],
@@ -34,7 +92,7 @@ pub fn plan_text(
     low: i128,
     high: i128,
 ) -> Result<Vec<u8>, AllocError>
-    ensures { IfOk result (λ text. text.items ≡ plan_text sizes rungs.now prices.now low high) }
+    ensures { IfOk result (λ text. text.items ≡ plan_lines sizes rungs.now prices.now low high) }
 {
     let mut text = Vec::new(alloc);
     print_season(sizes, &mut text)?;
@@ -43,12 +101,6 @@ pub fn plan_text(
     print_revenue(low, high, &mut text)?;
     Ok(text)
 }
-
-/// The text tells the sizes, the path, its prices and both ends of its revenue: no two plans have
-/// one text.
-pub fn plan_text_determines()
-    ensures { PlanTextDetermines }
-{}
 
 /// Appends the line on the sizes.
 fn print_season(sizes: PlanSizes, out: &mut Vec<u8>) -> Result<(), AllocError>
@@ -139,14 +191,13 @@ mod tests {
 
     #[test]
     fn prints_the_smallest_plan(rt: HostRuntime) -> Result<(), Fail> {
-        plan_text_determines();
         let sizes = PlanSizes {
             stores: 1,
             weeks: 1,
             rungs: 1,
             base: 4,
         };
-        let text = plan_text(rt.alloc(), sizes, &[1], &[1000], 800_000_000, 800_000_000)?;
+        let text = plan_lines(rt.alloc(), sizes, &[1], &[1000], 800_000_000, 800_000_000)?;
         let want =
             b"season 1 stores 1 weeks 1 rungs base 4\npath 1\nprices 10.00\nrevenue 8.00000000 8.00000000\n";
         assert_eq!(rt; text.as_slice(), want.as_slice());
@@ -161,7 +212,7 @@ mod tests {
             rungs: 12,
             base: 1_000_000,
         };
-        let text = plan_text(
+        let text = plan_lines(
             rt.alloc(),
             sizes,
             &[1, 2, 12],
