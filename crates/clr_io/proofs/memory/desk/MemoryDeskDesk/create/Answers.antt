@@ -24,5 +24,5 @@ returns-clause-ok c =
     let is : c.len.result ≡ length bytes = omega arith in
     let pushed : c.push.new.self.items ≡ entries ++ entry ∷ [] = search (rules, common_steps) in
     ap (λ (es : List Entry). Some (files_in es bytes)) pushed
-      ∙ ap (λ (fs : Files). Some fs) (files_in-added entries entry bytes is)
-      ∙ ap (λ (n : List ℕ). Some (files_in entries bytes ++ (n, []) ∷ [])) c.filled.ensures
+    ∙ ap (λ (fs : Files). Some fs) (files_in-added entries entry bytes is)
+    ∙ ap (λ (n : List ℕ). Some (files_in entries bytes ++ (n, []) ∷ [])) c.filled.ensures

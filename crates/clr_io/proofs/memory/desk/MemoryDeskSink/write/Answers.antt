@@ -17,7 +17,7 @@ returns-clause-bytes c =
     let grown : c.extend_from_slice.new.self.items ≡ bytes ++ take c.min-count.result c.args.piece.now = search (rules, common_steps) in
     let some : 0 < length entries = search (rules, common_steps) in
     grows (last_bytes (files_in entries bytes)) (last_bytes (files_in entries c.extend_from_slice.new.self.items)) (take c.min-count.result c.args.piece.now)
-      (ap (λ (b : List ℕ). last_bytes (files_in entries b)) grown ∙ last-more entries bytes (take c.min-count.result c.args.piece.now) some c.args.self.now.ordered)
+    (ap (λ (b : List ℕ). last_bytes (files_in entries b)) grown ∙ last-more entries bytes (take c.min-count.result c.args.piece.now) some c.args.self.now.ordered)
 
 pub returns-clause-around : goal.returns-clause-around
 returns-clause-around c =
