@@ -1,4 +1,4 @@
-use Rattle.std.proofs.Common.{arith, ◌<◌, ◌≤◌, ◌+◌, ◌≡◌, suc, length, drop, ap, sym, ◌∙◌, Some, List, ℕ, slice_range}
+use Rattle.std.proofs.Common.{arith, ◌<◌, ◌+◌, ◌≡◌, suc, length, drop, ap, sym, ◌∙◌, Some, List, ℕ, slice_range}
 use Rattle.clr_io.specs.Entries.{start_of}
 use Rattle.clr_io.proofs.Entries.{length-files_in, bytes-at, start_before_next, start_at_within}
 use Rattle.clr_io.proofs.memory.desk.MemoryDesk.bytes.Goals as goal

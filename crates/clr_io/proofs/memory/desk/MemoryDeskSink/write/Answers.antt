@@ -1,6 +1,6 @@
-use Rattle.std.proofs.Common.{◌≡◌, ◌≤◌, ◌<◌, ◌++◌, length, take, arith, rules, true, ℕ, List, ap, Some, sym, ◌∙◌}
+use Rattle.std.proofs.Common.{◌≡◌, ◌≤◌, ◌<◌, ◌++◌, length, take, arith, rules, ℕ, List, ap, Some, ◌∙◌}
 use Rattle.std.proofs.lemmas.Grind.{common_steps}
-use Rattle.clr_io.specs.Entries.{in_order, files_in}
+use Rattle.clr_io.specs.Entries.{files_in}
 use Rattle.clr_io.specs.Files.{last_bytes, around_last}
 use Rattle.clr_io.proofs.Entries.{in_order-more, last-more, around-more, grows, length-files_in}
 use Rattle.clr_io.proofs.memory.desk.MemoryDeskSink.write.Goals as goal
