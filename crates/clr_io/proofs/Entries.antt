@@ -1,4 +1,4 @@
-use Rattle.std.proofs.Common.{◌≡◌, ◌≤◌, ◌<◌, ◌+◌, ◌-◌, ℕ, zero, suc, Bool, true, false, ◌&&◌, List, [], ◌∷◌, ◌++◌, length, map, get_or, slice_get, slice_range, nat_le, take, drop, refl, arith, ap, sym, ◌∙◌, length-drop, length-append, append-nil}
+use Rattle.std.proofs.Common.{◌≡◌, ◌≤◌, ◌<◌, ◌-◌, ℕ, zero, suc, Bool, true, false, ◌&&◌, List, [], ◌∷◌, ◌++◌, length, map, get_or, slice_get, slice_range, nat_le, take, drop, refl, arith, ap, sym, ◌∙◌, length-drop}
 use Rattle.std.specs.Prelude.{Option, Some, None, string_bytes, option_map}
 use Rattle.std.specs.Io.KnownBytes.{Appends}
 use Rattle.std.proofs.lemmas.Bool.{leb-true, le-leb}
@@ -72,14 +72,14 @@ around-more (entry ∷ next ∷ entries) bytes more ordered =
     let here = leb-true entry.start next.start (first_true _ _ ordered) in
     let behind = start_within (next ∷ entries) (length bytes) (second_true _ _ ordered) in
     ap (λ (b : List ℕ). (string_bytes entry.name, b) ∷ around_last (files_in (next ∷ entries) (bytes ++ more))) (range-append bytes more entry.start next.start here behind)
-      ∙ ap (λ (fs : Files). (string_bytes entry.name, slice_range bytes entry.start next.start) ∷ fs) (around-more (next ∷ entries) bytes more (second_true _ _ ordered))
+    ∙ ap (λ (fs : Files). (string_bytes entry.name, slice_range bytes entry.start next.start) ∷ fs) (around-more (next ∷ entries) bytes more (second_true _ _ ordered))
 
 -- a file that begins where all bytes end has none yet
 pub files_in-added : (entries : List Entry) (entry : Entry) (bytes : List ℕ) → entry.start ≡ length bytes → files_in (entries ++ entry ∷ []) bytes ≡ files_in entries bytes ++ (string_bytes entry.name, []) ∷ []
 files_in-added [] entry bytes is = ap (λ (b : List ℕ). (string_bytes entry.name, b) ∷ []) (range-rest bytes entry.start (length bytes) refl ∙ drop_of_length-le bytes (omega arith))
 files_in-added (first ∷ []) entry bytes is =
     ap (λ (b : List ℕ). (string_bytes first.name, b) ∷ files_in (entry ∷ []) bytes) (ap (slice_range bytes first.start) is)
-      ∙ ap (λ (fs : Files). (string_bytes first.name, slice_range bytes first.start (length bytes)) ∷ fs) (files_in-added [] entry bytes is)
+    ∙ ap (λ (fs : Files). (string_bytes first.name, slice_range bytes first.start (length bytes)) ∷ fs) (files_in-added [] entry bytes is)
 files_in-added (first ∷ next ∷ entries) entry bytes is =
     ap (λ (fs : Files). (string_bytes first.name, slice_range bytes first.start next.start) ∷ fs) (files_in-added (next ∷ entries) entry bytes is)
 

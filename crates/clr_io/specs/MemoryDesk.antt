@@ -1,5 +1,5 @@
 -- The files made on a desk in memory, and what each call does.
-use Rattle.std.specs.Prelude.{◌≡◌, ◌+◌, ◌||◌, ◌&&◌, ◌==◌, ℕ, Bool, List, not, length, min, nat_lt, MatchResult, Result, is_err, if◌then◌else◌}
+use Rattle.std.specs.Prelude.{◌≡◌, ◌+◌, ◌||◌, ◌&&◌, ◌==◌, ℕ, List, not, length, min, nat_lt, MatchResult, Result, is_err, if◌then◌else◌}
 use Rattle.clr_io.specs.declared.fault.Failed.{Failed}
 use Rattle.clr_io.specs.declared.memory.desk.MemoryDesk.{MemoryDesk}
 use Rattle.clr_io.specs.Calls.{IsCounted, IsFresh, fails_next}

@@ -1,5 +1,5 @@
 -- What each call does to a sink in memory.
-use Rattle.std.specs.Prelude.{◌≡◌, ◌+◌, ◌||◌, ◌&&◌, ◌==◌, ℕ, Bool, List, not, length, min, IfOk, MatchResult, Result, is_err}
+use Rattle.std.specs.Prelude.{◌≡◌, ◌+◌, ◌||◌, ◌&&◌, ◌==◌, ℕ, List, not, length, min, MatchResult, Result, is_err}
 use Rattle.clr_io.specs.declared.fault.Failed.{Failed}
 use Rattle.clr_io.specs.declared.memory.sink.MemorySink.{MemorySink}
 use Rattle.clr_io.specs.Calls.{IsCounted, IsFresh, fails_next}

@@ -1,6 +1,5 @@
 use Rattle.std.proofs.Common.{sym, ◌≡◌, arith, drop, []}
 use Rattle.std.proofs.Math.ListN.{drop_of_length-le}
-use Rattle.clr_io.specs.Entries.{start_of}
 use Rattle.clr_io.proofs.Entries.{start_of-drop}
 use Rattle.clr_io.proofs.memory.desk.start_at.Goals as goal
 

@@ -1,4 +1,4 @@
-use Rattle.std.proofs.Common.{arith, ◌<◌, ◌≤◌, ◌+◌, ◌≡◌, suc, length, drop, ap, sym, ◌∙◌, Some, List, ℕ, slice_range}
+use Rattle.std.proofs.Common.{arith, ◌<◌, ◌+◌, ◌≡◌, suc, length, drop, ap, sym, ◌∙◌, Some, List, ℕ, slice_range}
 use Rattle.clr_io.specs.Entries.{start_of}
 use Rattle.clr_io.proofs.Entries.{length-files_in, bytes-at, start_before_next, start_at_within}
 use Rattle.clr_io.proofs.memory.desk.MemoryDesk.bytes.Goals as goal
@@ -46,6 +46,6 @@ returns c =
     let start : c.start_at-start.result ≡ start_of (drop c.args.i entries) len = cc in
     let end : c.start_at-end.result ≡ start_of (drop (suc c.args.i) entries) len = cc in
     bytes-at entries bytes c.args.i within
-      ∙ ap (λ (n : ℕ). Some (slice_range bytes n (start_of (drop (suc c.args.i) entries) len))) (sym start)
-      ∙ ap (λ (n : ℕ). Some (slice_range bytes c.start_at-start.result n)) (sym end)
-      ∙ ap (λ (b : List ℕ). Some (slice_range b c.start_at-start.result c.start_at-end.result)) (sym c.deref-3.ensures.value)
+    ∙ ap (λ (n : ℕ). Some (slice_range bytes n (start_of (drop (suc c.args.i) entries) len))) (sym start)
+    ∙ ap (λ (n : ℕ). Some (slice_range bytes c.start_at-start.result n)) (sym end)
+    ∙ ap (λ (b : List ℕ). Some (slice_range b c.start_at-start.result c.start_at-end.result)) (sym c.deref-3.ensures.value)

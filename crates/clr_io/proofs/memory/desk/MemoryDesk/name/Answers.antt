@@ -12,5 +12,5 @@ returns c =
     let entries = c.args.self.now.entries.items in
     let within : c.args.i < length entries = omega (arith, length-files_in entries c.args.self.now.bytes.items) in
     name-at entries c.args.self.now.bytes.items c.args.i c.index.result.now within
-      ∙ ap (λ (e : Entry). Some (string_bytes e.name)) (sym c.index.ensures)
-      ∙ ap (λ (b : List ℕ). Some b) (sym c.as_str.ensures.value)
+    ∙ ap (λ (e : Entry). Some (string_bytes e.name)) (sym c.index.ensures)
+    ∙ ap (λ (b : List ℕ). Some b) (sym c.as_str.ensures.value)

@@ -1,5 +1,4 @@
-use Rattle.std.proofs.Common.{◌≡◌, ◌∙◌, ◌++◌, ◌∷◌, [], true, ap, sym, Some, arith, rules, length, List, ℕ}
-use Rattle.std.specs.Prelude.{string_bytes}
+use Rattle.std.proofs.Common.{◌≡◌, ◌∙◌, ◌++◌, ◌∷◌, [], ap, Some, arith, rules, length, List, ℕ}
 use Rattle.std.proofs.lemmas.Grind.{common_steps}
 use Rattle.clr_io.specs.Files.{Files}
 use Rattle.clr_io.specs.Entries.{files_in, in_order}
@@ -24,5 +23,5 @@ returns-clause-ok c =
     let is : c.len.result ≡ length bytes = omega arith in
     let pushed : c.push.new.self.items ≡ entries ++ entry ∷ [] = search (rules, common_steps) in
     ap (λ (es : List Entry). Some (files_in es bytes)) pushed
-      ∙ ap (λ (fs : Files). Some fs) (files_in-added entries entry bytes is)
-      ∙ ap (λ (n : List ℕ). Some (files_in entries bytes ++ (n, []) ∷ [])) c.filled.ensures
+    ∙ ap (λ (fs : Files). Some fs) (files_in-added entries entry bytes is)
+    ∙ ap (λ (n : List ℕ). Some (files_in entries bytes ++ (n, []) ∷ [])) c.filled.ensures

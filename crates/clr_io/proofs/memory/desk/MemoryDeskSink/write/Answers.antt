@@ -1,6 +1,6 @@
-use Rattle.std.proofs.Common.{◌≡◌, ◌≤◌, ◌<◌, ◌++◌, length, take, arith, rules, true, ℕ, List, ap, Some, sym, ◌∙◌}
+use Rattle.std.proofs.Common.{◌≡◌, ◌≤◌, ◌<◌, ◌++◌, length, take, arith, rules, ℕ, List, ap, Some, ◌∙◌}
 use Rattle.std.proofs.lemmas.Grind.{common_steps}
-use Rattle.clr_io.specs.Entries.{in_order, files_in}
+use Rattle.clr_io.specs.Entries.{files_in}
 use Rattle.clr_io.specs.Files.{last_bytes, around_last}
 use Rattle.clr_io.proofs.Entries.{in_order-more, last-more, around-more, grows, length-files_in}
 use Rattle.clr_io.proofs.memory.desk.MemoryDeskSink.write.Goals as goal
@@ -17,7 +17,7 @@ returns-clause-bytes c =
     let grown : c.extend_from_slice.new.self.items ≡ bytes ++ take c.min-count.result c.args.piece.now = search (rules, common_steps) in
     let some : 0 < length entries = search (rules, common_steps) in
     grows (last_bytes (files_in entries bytes)) (last_bytes (files_in entries c.extend_from_slice.new.self.items)) (take c.min-count.result c.args.piece.now)
-      (ap (λ (b : List ℕ). last_bytes (files_in entries b)) grown ∙ last-more entries bytes (take c.min-count.result c.args.piece.now) some c.args.self.now.ordered)
+    (ap (λ (b : List ℕ). last_bytes (files_in entries b)) grown ∙ last-more entries bytes (take c.min-count.result c.args.piece.now) some c.args.self.now.ordered)
 
 pub returns-clause-around : goal.returns-clause-around
 returns-clause-around c =

@@ -1,4 +1,4 @@
-use Rattle.std.proofs.Common.{◌≡◌, ◌≤◌, ◌<◌, ◌+◌, ◌∙◌, ◌++◌, ℕ, List, [], sym, min, length, drop, take, arith, rules, ap}
+use Rattle.std.proofs.Common.{◌≡◌, ◌≤◌, ◌+◌, sym, min, length, drop, take, rules}
 use Rattle.std.proofs.lemmas.Grind.{common_steps}
 use Rattle.std.proofs.lemmas.List.{drop-drop}
 use Rattle.clr_io.specs.Memory.{opened}
