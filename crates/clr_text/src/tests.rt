@@ -23,6 +23,7 @@ fn whole_numbers(rt: HostRuntime) {
     for (field, want) in [
         ("0", Some(0)),
         ("7", Some(7)),
+        ("00", Some(0)),
         ("007", Some(7)),
         (" \t12\t ", Some(12)),
         ("0000000000000000000000000000000000000042", Some(42)),
@@ -44,32 +45,34 @@ fn whole_numbers(rt: HostRuntime) {
     }
 }
 
+const MONEY: [(&str, Option<u64>); 22] = [
+    ("0", Some(0)),
+    ("5", Some(500)),
+    ("5.0", Some(500)),
+    ("5.07", Some(507)),
+    ("5.7", Some(570)),
+    (" 5.07\t", Some(507)),
+    ("00000001.5", Some(150)),
+    ("12345678", Some(1_234_567_800)),
+    ("99999999.99", Some(9_999_999_999)),
+    ("10.005", None),
+    (".5", None),
+    ("5.", None),
+    (".", None),
+    ("123456789", None),
+    ("000000001", None),
+    ("5.0.7", None),
+    ("5 .0", None),
+    ("5,07", None),
+    ("5.-1", None),
+    ("+5", None),
+    ("-5.00", None),
+    ("", None),
+];
+
 #[test]
 fn money(rt: HostRuntime) {
-    for (field, want) in [
-        ("0", Some(0)),
-        ("5", Some(500)),
-        ("5.0", Some(500)),
-        ("5.07", Some(507)),
-        ("5.7", Some(570)),
-        (" 5.07\t", Some(507)),
-        ("00000001.5", Some(150)),
-        ("12345678", Some(1_234_567_800)),
-        ("99999999.99", Some(9_999_999_999)),
-        ("10.005", None),
-        (".5", None),
-        ("5.", None),
-        (".", None),
-        ("123456789", None),
-        ("000000001", None),
-        ("5.0.7", None),
-        ("5 .0", None),
-        ("5,07", None),
-        ("5.-1", None),
-        ("+5", None),
-        ("-5.00", None),
-        ("", None),
-    ] {
+    for (field, want) in MONEY {
         assert_eq!(rt; read_money(field.as_bytes()), want, "at {field}");
     }
 }
@@ -117,7 +120,7 @@ fn refused_tables(rt: HostRuntime) {
         ("\n\n", 0, Why::Header),
         ("\u{feff}", 0, Why::Header),
         ("\u{feff}\u{feff}a,b\n", 0, Why::Header),
-        ("b,a\n1,2\n", 0, Why::Header),
+        ("b,a\n1,4\n", 0, Why::Header),
         ("A,b\n1,2\n", 0, Why::Header),
         ("a\n1,2,3\n", 0, Why::Header),
         ("a,b,c\n", 0, Why::Header),
@@ -131,34 +134,51 @@ fn refused_tables(rt: HostRuntime) {
     }
 }
 
+// A column, a range, and what the number and the money of that column are in it.
+const RANGES: [(u32, u64, u64, Result<u64, Why>, Result<u64, Why>); 7] = [
+    (1, 7, 7, Ok(7), Err(Why::Range)),
+    (1, 8, 700, Err(Why::Range), Ok(700)),
+    (1, 0, 6, Err(Why::Range), Err(Why::Range)),
+    (2, 150, 150, Err(Why::Number), Ok(150)),
+    (2, 0, 149, Err(Why::Number), Err(Why::Range)),
+    (2, 151, 999, Err(Why::Number), Err(Why::Range)),
+    (3, 0, 9, Err(Why::Number), Err(Why::Money)),
+];
+
 #[test]
 fn fields_in_their_range(rt: HostRuntime) -> Result<(), Fail> {
-    let table = rows(rt.alloc(), b"a,b\n7,1.50\n", &["a", "b"])?;
+    let table = rows(rt.alloc(), b"a,b,c\n7,1.50,x\n", &["a", "b", "c"])?;
     assert_eq!(rt; table.len(), 1);
-    assert_eq!(rt; table.whole(1, 1), Some(7));
-    assert_eq!(rt; table.whole(1, 2), None);
-    assert_eq!(rt; table.number(1, 1, 7, 7), Ok(7));
-    assert_eq!(rt; table.number(1, 1, 8, 9), Err(refused(1, 1, Why::Range)));
-    assert_eq!(rt; table.number(1, 1, 0, 6), Err(refused(1, 1, Why::Range)));
-    assert_eq!(rt; table.number(1, 2, 0, 9), Err(refused(1, 2, Why::Number)));
-    assert_eq!(rt; table.money(1, 2, 150, 150), Ok(150));
-    assert_eq!(rt; table.money(1, 2, 151, 999), Err(refused(1, 2, Why::Range)));
-    let none = rows(rt.alloc(), b"a\nx\n", &["a"])?;
-    assert_eq!(rt; none.len(), 1);
-    assert_eq!(rt; none.money(1, 1, 0, 9), Err(refused(1, 1, Why::Money)));
-    assert_eq!(rt; none.counted(1)?.len(), 1);
+    for (column, low, high, number, money) in RANGES {
+        assert!(rt; column >= 1);
+        let number = number.map_err(|why| refused(1, column, why));
+        assert_eq!(rt;
+            table.number(1, column, low, high),
+            number,
+            "in {low}..{high}"
+        );
+        let money = money.map_err(|why| refused(1, column, why));
+        assert_eq!(rt;
+            table.money(1, column, low, high),
+            money,
+            "in {low}..{high}"
+        );
+    }
     Ok(())
 }
 
 #[test]
 fn counts(rt: HostRuntime) -> Result<(), Fail> {
-    for (file, found) in [("a\n", 0), ("a\n1\n2\n", 2)] {
-        let refusal = rows(rt.alloc(), file.as_bytes(), &["a"])?.counted(1).err();
-        assert_eq!(rt;
-            refusal,
-            Some(refused(0, 0, Why::Count { found })),
-            "at {file}"
-        );
+    for (file, found, refusal) in [
+        ("a\n", 0, Some(Why::Count { found: 0 })),
+        ("a\n1\n", 1, None),
+        ("a\n1\n2\n", 2, None),
+        ("a\n1\n2\n3\n", 3, Some(Why::Count { found: 3 })),
+    ] {
+        let table = rows(rt.alloc(), file.as_bytes(), &["a"])?;
+        assert_eq!(rt; table.len(), found, "at {file}");
+        let want = refusal.map(|why| refused(0, 0, why));
+        assert_eq!(rt; table.counted(2).err(), want, "at {file}");
     }
     Ok(())
 }
