@@ -1,5 +1,5 @@
 -- The weights of a season's demands. Stores, weeks and rungs are counted from 1, units from 0.
-use Rattle.std.specs.Prelude.{◌≡◌, ◌≤◌, ◌+◌, ◌-◌, ◌*◌, ℕ, suc, List, [], length, map, take, drop, get_or, sum}
+use Rattle.std.specs.Prelude.{◌≡◌, ◌≤◌, ◌+◌, ◌-◌, ◌*◌, ◌/◌, ℕ, suc, List, [], length, map, take, drop, get_or, sum}
 use Rattle.clr_num.specs.Lists.{nth, numbers}
 
 -- The weights of all demands: by store, week and rung, and then by units from 0 to the greatest.
@@ -52,3 +52,7 @@ flat_row width flat row = take width (drop (row * width) flat)
 abbrev pub nested : ℕ → ℕ → ℕ → ℕ → List ℕ → List (List (List (List ℕ)))
 nested stores weeks rungs width flat =
     map (λ store. map (λ week. map (λ rung. flat_row width flat (row_number weeks rungs store week rung)) (numbers 1 rungs)) (numbers 1 weeks)) (numbers 1 stores)
+
+-- the weights of a row, times what brings their sum to the base
+abbrev pub scaled_row : ℕ → List ℕ → List ℕ
+scaled_row base row = map (λ weight. weight * (base / sum row)) row

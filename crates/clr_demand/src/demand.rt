@@ -1,9 +1,17 @@
 // The weights of a season's demands.
-ghost use Rattle.std.specs.Prelude.{◌≡◌, ◌≤◌, ◌<◌, ◌-◌, ◌+◌, ◌*◌, [], ℕ, List, suc, length, sum, drop, slice_index_or};
+ghost use Rattle.std.specs.Prelude.{◌≡◌, ◌≤◌, ◌<◌, ◌-◌, ◌+◌, ◌*◌, [], ℕ, List, suc, length, sum, drop, slice_index_or, IfOk};
+ghost use Rattle.clr_text.specs.Tables.{Gives};
+ghost use Rattle.clr_demand.specs.Demand.{demand_of};
 ghost use Rattle.clr_demand.specs.Places.{size};
 ghost use Rattle.clr_demand.specs.Weights.{AreWeights, flat_row, row_number, tail_at, weight_at, weights_at};
 
-use crate::Shape;
+use crate::balanced::read_balanced;
+use crate::cells::Cells;
+use crate::row::Sizes;
+use crate::scale;
+use crate::shape::Shape;
+use clr_text::{FileError, Names};
+use std::alloc::Global;
 use std::marker::Model;
 
 /// How likely each demand is: its weight out of the base, for each store, week and rung, each
@@ -51,6 +59,50 @@ fn sum_of(weights: &[u32]) -> u32
     ensures { result ≡ sum weights.now }
 {
     weights.iter().sum()
+}
+
+/// The demand of demand.csv: rows of a store's name, a week, a rung, units from 0 to 200 and their
+/// weight out of the base. The rows stand in any order, and what no row lists weighs 0.
+///
+/// Where `scaled`, the listed weights of a store, a week and a rung may sum to any divisor of the
+/// base, and are multiplied so that they sum to it.
+///
+/// # Errors
+///
+/// The file's first refusal. First `Header` and then `Fields` over all rows. Then row by row, from
+/// the left: `Unknown` of a store that isn't among the names; `Number` and `Range` of the week, the
+/// rung, the units and the weight, which is at most the base; `Repeat` of a row that lists the
+/// same store, week, rung and units. Last `Total`, at row 0, names the first store, week and rung
+/// whose listed weights don't sum to the base, or, where `scaled`, sum to 0 or to no divisor of it,
+/// with their sum. `Memory` is want of memory.
+pub fn read_demand(
+    alloc: Global,
+    bytes: &[u8],
+    names: &Names,
+    weeks: u32,
+    rungs: u32,
+    base: u32,
+    scaled: bool,
+) -> Result<Demand, FileError>
+    requires bytes { length bytes.now ≤ 33554432 }
+    requires names { (1 ≤ length names.now) × (length names.now ≤ 64) }
+    requires weeks { (1 ≤ weeks) × (weeks ≤ 52) }
+    requires rungs { (1 ≤ rungs) × (rungs ≤ 12) }
+    requires base { (1 ≤ base) × (base ≤ 1000000) }
+    ensures gives { Gives (λ d. d) result (demand_of names.now (record { weeks = weeks; rungs = rungs; base = base }) scaled bytes.now) }
+    ensures facts { IfOk result (λ d. AreWeights (length names.now) weeks rungs base d) }
+{
+    let sizes = Sizes { weeks, rungs, base };
+    let cells = match read_balanced(alloc, bytes, names, sizes, scaled) {
+        Ok(cells) => cells,
+        Err(error) => return Err(error),
+    };
+    let Cells { shape, weights, .. } = cells;
+    Ok(Demand {
+        shape,
+        base,
+        weights: scale::scaled(weights, shape.top as usize + 1, base),
+    })
 }
 
 impl Demand {

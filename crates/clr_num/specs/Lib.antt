@@ -4,3 +4,4 @@ pub mod Prices
 pub mod Rounding
 pub mod Direction
 pub mod DirectionLaws
+pub mod Money

@@ -38,10 +38,14 @@ pub record IsPlace (season : Season) (store week rung : ℕ) : Type 0 where
   pub first_rung : 1 ≤ rung
   pub last_rung : rung ≤ length season.rules.prices
 
--- the table cells that a store of so many units takes: one for each number of weeks done, summary and stock
+-- the table cells for one stock of one store: one for each number of weeks done and each summary of the weeks before
+abbrev pub stock_cells : Rulebook → ℕ
+stock_cells rules =
+    (rules.weeks + 1) * length rules.prices * (min rules.markdowns (min (length rules.prices - 1) rules.weeks) + 1) * rules.spacing
+
+-- those of a store that opens with so many units
 abbrev pub store_cells : Rulebook → ℕ → ℕ
-store_cells rules units =
-    (rules.weeks + 1) * length rules.prices * (min rules.markdowns (min (length rules.prices - 1) rules.weeks) + 1) * rules.spacing * (units + 1)
+store_cells rules units = stock_cells rules * (units + 1)
 
 -- those of all stores
 abbrev pub cells : Rulebook → List Store → ℕ

@@ -1,0 +1,132 @@
+//! Division rounded down and up.
+ghost use Rattle.clr_num.specs.Direction.{IsDirection, AtLeast, AtMost};
+ghost use Rattle.clr_num.specs.DirectionLaws.{ceil_is_direction, floor_is_direction};
+ghost use Rattle.clr_num.specs.Rounding.{ceil, floor, RoundsDown, RoundsUp};
+ghost use Rattle.std.specs.Prelude.{◌≡◌, ℕ, ℤ, pos, ◌≤ℤ◌, nat_abs};
+
+/// A way to round, up or down.
+///
+/// A lower bound is computed with [`Down`] and an upper bound with [`Up`], by one body. Sums,
+/// averages and maxima of numbers that lean to one side lean to it too.
+pub trait Direction {
+    // `leans a b`: a stands on the safe side of b.
+    ghost leans: { ℤ → ℤ → Type 0 };
+
+    // The number divided by the base, rounded this way.
+    ghost quotient: { ℤ → ℕ → ℤ };
+
+    /// The number divided by the base, rounded this way, also below zero.
+    ///
+    /// The base is at least 1. The quotient times the base leans from the number and differs
+    /// from it by less than the base.
+    fn div(num: i128, base: i128) -> i128
+        requires { pos 1 ≤ℤ base }
+        ensures { result ≡ quotient num (nat_abs base) };
+
+    /// [`Direction::div`] at 64 bits, which is far faster.
+    fn div_narrow(num: i64, base: i64) -> i64
+        requires { pos 1 ≤ℤ base }
+        ensures { result ≡ quotient num (nat_abs base) };
+
+    // Sums and averages keep the relation, and a division goes its way by less than one.
+    ghost laws: { IsDirection leans quotient };
+}
+
+/// Rounding up: to the least whole number that isn't below the exact quotient.
+pub struct Up;
+
+/// Rounding down: to the greatest whole number that isn't above the exact quotient.
+pub struct Down;
+
+impl Direction for Down {
+    ghost leans = { AtMost };
+
+    ghost quotient = { floor };
+
+    fn div(num: i128, base: i128) -> i128 {
+        num / base - i128::from(num % base < 0)
+    }
+
+    fn div_narrow(num: i64, base: i64) -> i64 {
+        num / base - i64::from(num % base < 0)
+    }
+
+    ghost laws = { floor_is_direction };
+}
+
+impl Direction for Up {
+    ghost leans = { AtLeast };
+
+    ghost quotient = { ceil };
+
+    fn div(num: i128, base: i128) -> i128 {
+        num / base + i128::from(num % base > 0)
+    }
+
+    fn div_narrow(num: i64, base: i64) -> i64 {
+        num / base + i64::from(num % base > 0)
+    }
+
+    ghost laws = { ceil_is_direction };
+}
+
+/// What every direction keeps: its relation is reflexive, transitive and kept by adding, by
+/// scaling with a number that isn't negative and by maximum; a quotient times the base leans from
+/// the number and differs from it by less than the base; whole multiples of the base move out.
+pub fn direction_laws<R: Direction>()
+    ensures { IsDirection R.leans R.quotient }
+{}
+
+/// `floor` and `ceil` are the mathematical ones, also below zero: the greatest whole number that
+/// is at most the exact quotient, and the least that is at least it.
+pub fn rounding_laws()
+    ensures down { RoundsDown }
+    ensures up { RoundsUp }
+{}
+
+#[cfg(test)]
+mod tests {
+    use super::*;
+
+    #[test]
+    fn rounds_to_its_side_of_zero(rt: HostRuntime) {
+        assert_eq!(rt; [Up::div(-1, 2), Up::div(-3, 2), Up::div(4, 2)], [0, -1, 2]);
+        assert_eq!(rt;
+            [Down::div(-1, 2), Down::div(-3, 2), Down::div(4, 2)],
+            [-1, -2, 2]
+        );
+        assert_eq!(rt;
+            [
+                Up::div_narrow(-1, 2),
+                Up::div_narrow(-3, 2),
+                Up::div_narrow(4, 2)
+            ],
+            [0, -1, 2]
+        );
+        assert_eq!(rt;
+            [
+                Down::div_narrow(-1, 2),
+                Down::div_narrow(-3, 2),
+                Down::div_narrow(4, 2)
+            ],
+            [-1, -2, 2]
+        );
+        assert_eq!(rt;
+            [Up::div(i128::MIN, 1), Down::div(i128::MAX, i128::MAX)],
+            [i128::MIN, 1]
+        );
+    }
+
+    fn quotient<R: Direction>(num: i128, base: i128) -> i128
+        requires { pos 1 ≤ℤ base }
+    {
+        direction_laws::<R>();
+        R::div(num, base)
+    }
+
+    #[test]
+    fn rounds_through_the_bound(rt: HostRuntime) {
+        rounding_laws();
+        assert_eq!(rt; [quotient::<Up>(7, 2), quotient::<Down>(7, 2)], [4, 3]);
+    }
+}
