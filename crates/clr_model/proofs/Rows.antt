@@ -1,5 +1,5 @@
 -- A week's weighed sum is a row's, less the base times the cost, and the cost stands outside the average.
-use Rattle.std.proofs.Common.{[], ◌∷◌, sum, ◌^◌, mul-le-mul, if◌then◌else◌, nat_eq, false, ◌≡◌, ℕ, zero, suc, ◌+◌, ◌-◌, ◌*◌, ◌≤◌, ◌<◌, min, ℤ, pos, neg_ℤ, ◌+ℤ◌, ◌-ℤ◌, ◌*ℤ◌, List, length, get_or, refl, arith, ap, ap₂, sym, ◌∙◌, subst, mul_assoc}
+use Rattle.std.proofs.Common.{[], ◌∷◌, sum, ◌^◌, mul-le-mul, if◌then◌else◌, nat_eq, false, ◌≡◌, ℕ, zero, suc, ◌+◌, ◌-◌, ◌*◌, ◌≤◌, ◌<◌, min, ℤ, pos, neg_ℤ, ◌+ℤ◌, ◌-ℤ◌, ◌*ℤ◌, List, length, get_or, refl, arith, ap, ap₂, sym, ◌∙◌, mul_assoc}
 use lib.IntN.{zero-*ℤ, *ℤ_comm}
 use Rattle.std.proofs.lemmas.Int.{ints}
 use Rattle.std.proofs.lemmas.List.{get_or_past}
@@ -10,18 +10,17 @@ use Rattle.clr_average.proofs.Within.{within_more, within_quotient}
 use Rattle.clr_num.specs.Direction.{IsDirection}
 use Rattle.clr_num.specs.Lists.{numbers}
 use Rattle.clr_rules.specs.Rules.{price}
-use Rattle.clr_season.specs.Season.{Season, store_at, weight}
+use Rattle.clr_season.specs.Season.{Season, store_at}
 use Rattle.clr_num.specs.Sums.{sum_over}
-use Rattle.clr_model.specs.Revenue.{cent, fee, left, week_cents, earn}
+use Rattle.clr_model.specs.Revenue.{cent, fee, week_cents}
 use Rattle.clr_model.specs.PathValue.{weighed}
-use Rattle.clr_average.proofs.Ring.{linear, mul_add, add_mul}
+use Rattle.clr_average.proofs.Ring.{linear, mul_add}
 use Rattle.clr_average.proofs.Sums.{sum_over-same, sum_over-add, sum_over-scale_right, sum_over-numbers_more}
 use Rattle.clr_average.specs.Average.{mass, row_weighed}
 use Rattle.clr_average.proofs.Masses.{mass_is_sum}
 use Rattle.clr_model.specs.Weights.{AreWeights}
 
 module _ (weights : List ℕ) (gain : ℕ) (after : List ℤ) (stock : ℕ) (rest_is : (d : ℕ) → length weights ≤ d → get_or weights d 0 ≡ 0) where
-
   abbrev term : ℕ → ℤ
   term demand = pos (get_or weights demand 0) *ℤ (pos (gain * min stock demand) +ℤ get_or after (stock - min stock demand) (pos 0))
 
@@ -65,8 +64,10 @@ part w gain price cost sold value e = ap (λ t. pos w *ℤ t) inner ∙ mul_add 
   where
     scaled : pos cent *ℤ (pos (price * sold) -ℤ pos cost) ≡ pos (cent * (price * sold)) +ℤ pos cent *ℤ neg_ℤ (pos cost)
     scaled = mul_add (pos cent) (pos (price * sold)) (neg_ℤ (pos cost))
+
     grouped : cent * (price * sold) ≡ gain * sold
     grouped = sym (mul_assoc cent price sold) ∙ ap (λ t. t * sold) (sym e)
+
     inner : pos cent *ℤ (pos (price * sold) -ℤ pos cost) +ℤ value ≡ (pos (gain * sold) +ℤ value) +ℤ neg_ℤ (pos (cent * cost))
     inner =
         let a : pos cent *ℤ neg_ℤ (pos cost) ≡ neg_ℤ (pos (cent * cost)) = turn cent cost in

@@ -1,10 +1,9 @@
 -- How large the values of a path can be.
-use Rattle.std.proofs.Common.{[], ◌∷◌, sum, if◌then◌else◌, ◌==◌, Bool, true, false, ◌≡◌, ℕ, zero, suc, ◌+◌, ◌-◌, ◌*◌, ◌≤◌, ◌<◌, min, ℤ, pos, neg_ℤ, ◌+ℤ◌, ◌-ℤ◌, ◌*ℤ◌, ◌≤ℤ◌, List, length, length-drop, drop, get_or, refl, arith, ap, sym, ◌∙◌, mul_assoc, mul-add, mul-le-mul_left, mul-le-mul_right, mul-suc}
+use Rattle.std.proofs.Common.{[], ◌∷◌, if◌then◌else◌, ◌==◌, Bool, true, false, ◌≡◌, ℕ, zero, suc, ◌+◌, ◌-◌, ◌*◌, ◌≤◌, min, ℤ, pos, neg_ℤ, ◌+ℤ◌, ◌-ℤ◌, ◌*ℤ◌, ◌≤ℤ◌, List, length, length-drop, drop, arith, ap, sym, ◌∙◌, mul_assoc, mul-add, mul-le-mul_left, mul-le-mul_right, mul-suc}
 use Rattle.std.proofs.lemmas.List.{get_or_past}
 use Rattle.std.proofs.lemmas.List.Elements.{All-get_or}
 use Rattle.clr_stock.specs.Stock.{IsStore, no_store}
 use Rattle.clr_num.specs.Direction.{IsDirection}
-use Rattle.clr_num.specs.Lists.{numbers}
 use Rattle.clr_num.specs.Sums.{sum_over}
 use Rattle.clr_rules.specs.Rules.{IsPath, price, rung_at}
 use Rattle.clr_season.specs.Season.{Season, IsPlace, IsSeason, demands, store_at, weight, weights_of}
@@ -14,7 +13,7 @@ use Rattle.clr_model.proofs.Ladders.{OnLadder, path_on_ladder, rest_on_ladder}
 use Rattle.clr_model.proofs.Rows.{weights_sum, turn}
 use Rattle.clr_average.specs.Average.{IsWithin, mass}
 use Rattle.clr_average.proofs.Masses.{mass_is_sum}
-use Rattle.clr_average.proofs.Ring.{linear, le_chain, scale_le}
+use Rattle.clr_average.proofs.Ring.{linear, scale_le}
 use Rattle.clr_average.proofs.Sums.{sum_over-scale_right}
 use Rattle.clr_average.proofs.Within.{quotient_high, quotient_low}
 
@@ -27,8 +26,7 @@ sum_over-le (x ∷ xs) f g h =
 
 -- a store of a season, what a unit can earn it at most, and what it pays for relabelling at most
 module _ (leans : ℤ → ℤ → Type 0) (div : ℤ → ℕ → ℤ) (laws : IsDirection leans div) (season : Season) (is : IsSeason season) (store unit cost : ℕ) (first : 1 ≤ store) (last : store ≤ length season.stores)
-  (prices : (rung : ℕ) → 1 ≤ rung → rung ≤ length season.rules.prices → cent * price season.rules rung ≤ unit) (salvage : cent * (store_at season store).salvage ≤ unit) (relabel : cent * (store_at season store).relabel ≤ cost) where
-
+    (prices : (rung : ℕ) → 1 ≤ rung → rung ≤ length season.rules.prices → cent * price season.rules rung ≤ unit) (salvage : cent * (store_at season store).salvage ≤ unit) (relabel : cent * (store_at season store).relabel ≤ cost) where
   all_weights : (week rung : ℕ) → IsPlace season store week rung → sum_over (demands season) (λ d. pos (weight season store week rung d)) ≡ pos season.base
   all_weights week rung place =
       let size : suc season.top ≡ length (weights_of season store week rung) = sym (is.sizes store week rung place) in
@@ -58,9 +56,9 @@ module _ (leans : ℤ → ℤ → Type 0) (div : ℤ → ℕ → ℤ) (laws : Is
       weighed season store done before rung stock value ≤ℤ pos (season.base * (unit * stock))
   weighed_high done before rung stock value place h =
       let terms : weighed season store done before rung stock value ≤ℤ sum_over (demands season) (λ d. pos (weight season store (suc done) rung d) *ℤ pos (unit * stock)) =
-        sum_over-le (demands season) _ (λ d. pos (weight season store (suc done) rung d) *ℤ pos (unit * stock)) (λ d. scale_le (weight season store (suc done) rung d) (earn season store before rung stock d +ℤ value (left stock d)) (pos (unit * stock)) (each d)) in
+      sum_over-le (demands season) _ (λ d. pos (weight season store (suc done) rung d) *ℤ pos (unit * stock)) (λ d. scale_le (weight season store (suc done) rung d) (earn season store before rung stock d +ℤ value (left stock d)) (pos (unit * stock)) (each d)) in
       let scaled : sum_over (demands season) (λ d. pos (weight season store (suc done) rung d) *ℤ pos (unit * stock)) ≡ pos (season.base * (unit * stock)) =
-        sum_over-scale_right (demands season) (pos (unit * stock)) (λ d. pos (weight season store (suc done) rung d)) ∙ ap (λ t. t *ℤ pos (unit * stock)) (all_weights (suc done) rung place) in
+      sum_over-scale_right (demands season) (pos (unit * stock)) (λ d. pos (weight season store (suc done) rung d)) ∙ ap (λ t. t *ℤ pos (unit * stock)) (all_weights (suc done) rung place) in
       omega (arith, linear)
     where
       each : (d : ℕ) → (earn season store before rung stock d +ℤ value (left stock d)) ≤ℤ pos (unit * stock)
@@ -100,9 +98,9 @@ module _ (leans : ℤ → ℤ → Type 0) (div : ℤ → ℕ → ℤ) (laws : Is
       neg_ℤ (pos (season.base * (cost * suc weeks))) ≤ℤ weighed season store done before rung stock value
   weighed_low done before rung stock weeks value place h =
       let terms : sum_over (demands season) (λ d. pos (weight season store (suc done) rung d) *ℤ neg_ℤ (pos (cost * suc weeks))) ≤ℤ weighed season store done before rung stock value =
-        sum_over-le (demands season) (λ d. pos (weight season store (suc done) rung d) *ℤ neg_ℤ (pos (cost * suc weeks))) _ (λ d. scale_le (weight season store (suc done) rung d) (neg_ℤ (pos (cost * suc weeks))) (earn season store before rung stock d +ℤ value (left stock d)) (each d)) in
+      sum_over-le (demands season) (λ d. pos (weight season store (suc done) rung d) *ℤ neg_ℤ (pos (cost * suc weeks))) _ (λ d. scale_le (weight season store (suc done) rung d) (neg_ℤ (pos (cost * suc weeks))) (earn season store before rung stock d +ℤ value (left stock d)) (each d)) in
       let scaled : sum_over (demands season) (λ d. pos (weight season store (suc done) rung d) *ℤ neg_ℤ (pos (cost * suc weeks))) ≡ neg_ℤ (pos (season.base * (cost * suc weeks))) =
-        sum_over-scale_right (demands season) (neg_ℤ (pos (cost * suc weeks))) (λ d. pos (weight season store (suc done) rung d)) ∙ (ap (λ t. t *ℤ neg_ℤ (pos (cost * suc weeks))) (all_weights (suc done) rung place) ∙ turn season.base (cost * suc weeks)) in
+      sum_over-scale_right (demands season) (neg_ℤ (pos (cost * suc weeks))) (λ d. pos (weight season store (suc done) rung d)) ∙ (ap (λ t. t *ℤ neg_ℤ (pos (cost * suc weeks))) (all_weights (suc done) rung place) ∙ turn season.base (cost * suc weeks)) in
       omega (arith, linear)
     where
       each : (d : ℕ) → neg_ℤ (pos (cost * suc weeks)) ≤ℤ (earn season store before rung stock d +ℤ value (left stock d))
@@ -131,12 +129,14 @@ module _ (leans : ℤ → ℤ → Type 0) (div : ℤ → ℕ → ℤ) (laws : Is
       let within : done + length (drop done path) ≤ season.rules.weeks = omega arith in
       let on : OnLadder season.rules (drop done path) = rest_on_ladder season.rules path done (path_on_ladder season.rules path path_is) le in
       let units : unit * stock ≤ unit * (store_at season store).units = mul-le-mul_left unit held in
-      let costs : cost * length (drop done path) ≤ cost * season.rules.weeks = mul-le-mul_left cost (omega arith) in
-      (lower (path_value_at div season store path done stock) (cost * length (drop done path)) (cost * season.rules.weeks) costs (path_value_low (drop done path) done (rung_at path done) stock within on),
-      higher (path_value_at div season store path done stock) (unit * stock) (unit * (store_at season store).units) units (path_value_high (drop done path) done (rung_at path done) stock within on))
+      let costs : cost * length (drop done path) ≤ cost * season.rules.weeks = mul-le-mul_left cost (omega arith) in (
+        lower (path_value_at div season store path done stock) (cost * length (drop done path)) (cost * season.rules.weeks) costs (path_value_low (drop done path) done (rung_at path done) stock within on),
+        higher (path_value_at div season store path done stock) (unit * stock) (unit * (store_at season store).units) units (path_value_high (drop done path) done (rung_at path done) stock within on),
+      )
     where
       lower : (value : ℤ) (a b : ℕ) → a ≤ b → neg_ℤ (pos a) ≤ℤ value → neg_ℤ (pos b) ≤ℤ value
       lower value a b le h = omega (arith, linear)
+
       higher : (value : ℤ) (a b : ℕ) → a ≤ b → value ≤ℤ pos a → value ≤ℤ pos b
       higher value a b le h = omega (arith, linear)
 

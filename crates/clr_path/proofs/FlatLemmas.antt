@@ -1,5 +1,5 @@
 -- A store's rows, cut out of the flat list.
-use Rattle.std.proofs.Common.{◌≡◌, ℕ, suc, ◌+◌, ◌-◌, ◌*◌, ◌≤◌, ◌<◌, ℤ, pos, List, [], length, get_or, map, take, drop, refl, arith, ap, sym, ◌∙◌, mul-le-mul_right, add-mul, length-drop}
+use Rattle.std.proofs.Common.{◌≡◌, ℕ, suc, ◌+◌, ◌-◌, ◌*◌, ◌≤◌, ◌<◌, ℤ, pos, List, [], length, get_or, map, take, drop, arith, ap, sym, ◌∙◌, mul-le-mul_right, add-mul, length-drop}
 use Rattle.std.proofs.lemmas.List.{ext_get_or, get_or-drop, get_or-take, length-take-le}
 use Rattle.clr_num.specs.Lists.{numbers}
 use Rattle.clr_season.specs.Season.{Season, store_at}
@@ -23,8 +23,10 @@ flat_row_is div season store path weeks width done values are le = ext_get_or (p
   where
     inside : (weeks - done) * width + width ≤ length values
     inside = row_inside weeks width done values are.size
+
     sized : length (take width (drop ((weeks - done) * width) values)) ≡ width
     sized = let part : length (drop ((weeks - done) * width) values) ≡ length values - (weeks - done) * width = length-drop ((weeks - done) * width) values in length-take-le width (drop ((weeks - done) * width) values) (omega (arith, part, inside))
+
     each : (i : ℕ) → i < width → get_or (take width (drop ((weeks - done) * width) values)) i (pos 0) ≡ get_or (map (path_value_at div season store path done) (numbers 0 width)) i (pos 0)
     each i lt =
         let back : weeks - (weeks - done) ≡ done = omega arith in
@@ -40,3 +42,16 @@ pub flat_rows_are : (div : ℤ → ℕ → ℤ) (season : Season) (store : ℕ) 
 flat_rows_are div season store path width values are is =
     numbers_same (flat_row (length path) width values) (λ done. map (path_value_at div season store path done) (numbers 0 (suc (store_at season store).units))) 0 (suc (length path))
     (λ done lt. flat_row_is div season store path (length path) width (0 + done) values are (omega arith) ∙ ap (λ n. map (path_value_at div season store path (0 + done)) (numbers 0 n)) is)
+
+-- a row that a store's list of rows has is one of the flat list
+pub row_early : (weeks width done : ℕ) (values : List ℤ) (rows : List (List ℤ)) → flat_rows weeks width values ≡ rows → done < length rows → done ≤ weeks
+row_early weeks width done values rows is lt =
+    let size : length (flat_rows weeks width values) ≡ suc weeks = length-numbers (flat_row weeks width values) 0 (suc weeks) in
+    let same : length (flat_rows weeks width values) ≡ length rows = ap length is in
+    omega (arith, lt, size, same)
+
+pub row_found : (weeks width done : ℕ) (values : List ℤ) (rows : List (List ℤ)) → flat_rows weeks width values ≡ rows → done < length rows → flat_row weeks width values done ≡ get_or rows done []
+row_found weeks width done values rows is lt =
+    let none : 0 + done ≡ done = omega arith in
+    let early : done ≤ weeks = row_early weeks width done values rows is lt in
+    ap (flat_row weeks width values) (sym none) ∙ (sym (get_or-numbers (flat_row weeks width values) 0 (suc weeks) done [] (omega (arith, early))) ∙ ap (λ r. get_or r done []) is)

@@ -1,11 +1,11 @@
 -- What the table of a path holds.
-use Rattle.std.proofs.Common.{◌≡◌, ℕ, zero, suc, ◌+◌, ◌-◌, ◌≤◌, ◌<◌, ◌⊎◌, inl, inr, ℤ, pos, ◌+ℤ◌, List, [], length, map, get_or, drop, refl, ap, sym, ◌∙◌, subst, arith}
+use Rattle.std.proofs.Common.{◌≡◌, ℕ, zero, suc, ◌+◌, ◌-◌, ◌≤◌, ◌<◌, inl, inr, ℤ, pos, List, [], length, map, get_or, refl, ap, sym, ◌∙◌, subst, arith}
 use Rattle.std.proofs.lemmas.Bool.{cases_lt}
 use Rattle.std.proofs.lemmas.List.{get_or_past, get_or-map}
 use Rattle.clr_num.specs.Direction.{IsDirection}
-use Rattle.clr_num.specs.Lists.{numbers, nth}
+use Rattle.clr_num.specs.Lists.{numbers}
 use Rattle.clr_num.specs.Sums.{sum_of}
-use Rattle.clr_rules.specs.Rules.{IsPath, rung_at}
+use Rattle.clr_rules.specs.Rules.{IsPath}
 use Rattle.clr_season.specs.Season.{Season, IsSeason, store_at}
 use Rattle.clr_stock.specs.Stock.{no_store}
 use Rattle.clr_average.specs.Average.{IsWithin}
@@ -18,7 +18,6 @@ use Rattle.clr_path.specs.Tables.{IsTable, full_value, path_rows, row_at, store_
 use Rattle.clr_path.proofs.Lists.{length-numbers, get_or-numbers}
 
 module _ (div : ℤ → ℕ → ℤ) (season : Season) (path : List ℕ) where
-
   stores_are : length (path_rows div season path) ≡ length season.stores
   stores_are = length-numbers (store_rows div season path) 1 (length season.stores)
 
@@ -67,15 +66,20 @@ module _ (div : ℤ → ℕ → ℤ) (season : Season) (path : List ℕ) where
     where
       few : length (path_rows div season path) ≤ 64
       few = let most : length season.stores ≤ 64 = is.stores.few in omega (arith, stores_are)
+
       starts : (store : ℕ) → 1 ≤ store → store ≤ length (path_rows div season path) → 0 < length (row_at (path_rows div season path) store 0)
       starts zero low high = absurd (omega arith)
       starts (suc i) low high = let size : length (row_at (path_rows div season path) (suc i) 0) ≡ suc (store_at season (suc i)).units = row_size i 0 (omega (arith, high, stores_are)) (omega arith) in omega arith
+
       held : (i done stock : ℕ) → i < length season.stores → done ≤ length path → stock ≤ (store_at season (suc i)).units → IsWithin 20000000000000000 (value_at (path_rows div season path) (suc i) done stock)
       held i done stock lt le in_stock = subst (IsWithin 20000000000000000) (sym (value_is i done stock lt le in_stock)) (path_value_small leans div laws season (suc i) path done stock is (omega arith) (omega arith) path_is le in_stock)
+
       in_row : (i done stock : ℕ) → i < length season.stores → done ≤ length path → IsWithin 20000000000000000 (value_at (path_rows div season path) (suc i) done stock)
       in_row i done stock lt le = elim (cases_lt stock (suc (store_at season (suc i)).units)) [ (inl less) ↦ held i done stock lt le (omega arith) | (inr more) ↦ nothing_small _ (past_stock i done stock lt le (omega arith)) ]
+
       in_store : (i done stock : ℕ) → i < length season.stores → IsWithin 20000000000000000 (value_at (path_rows div season path) (suc i) done stock)
       in_store i done stock lt = elim (cases_lt done (suc (length path))) [ (inl less) ↦ in_row i done stock lt (omega arith) | (inr more) ↦ nothing_small _ (past_weeks i done stock lt (omega arith)) ]
+
       small : (store done stock : ℕ) → IsWithin 20000000000000000 (value_at (path_rows div season path) store done stock)
       small zero done stock = nothing_small _ (ap (λ row. get_or row stock (pos 0)) (get_or_past [] done [] (omega arith)) ∙ get_or_past [] stock (pos 0) (omega arith))
       small (suc i) done stock = elim (cases_lt i (length season.stores)) [ (inl less) ↦ in_store i done stock less | (inr more) ↦ nothing_small _ (past_stores i done stock more) ]

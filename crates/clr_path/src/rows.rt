@@ -2,11 +2,12 @@
 ghost use Rattle.clr_average.specs.Average.{IsWithin};
 ghost use Rattle.clr_model.specs.PathValue.{path_value_at};
 ghost use Rattle.clr_model.specs.Revenue.{cent, salvage_cents};
+ghost use Rattle.clr_num.specs.Lists.{numbers};
 ghost use Rattle.clr_path.specs.Flat.{AreRows};
 ghost use Rattle.clr_path.specs.Tables.{store_rows};
 ghost use Rattle.clr_rules.specs.Rules.{IsPath, price, rung_at};
-ghost use Rattle.clr_season.specs.Season.{store_at};
-ghost use Rattle.std.specs.Prelude.{◌≡◌, ℕ, suc, ◌≤◌, ◌<◌, ◌+◌, ◌*◌, ◌-◌, pos, ◌*ℤ◌, [], length, get_or, drop, EachIndex, IfOk};
+ghost use Rattle.clr_season.specs.Season.{IsSeason, store_at};
+ghost use Rattle.std.specs.Prelude.{◌≡◌, ℕ, suc, ◌≤◌, ◌<◌, ◌+◌, ◌*◌, ◌-◌, pos, ◌*ℤ◌, [], length, get_or, drop, map, EachIndex, IfOk};
 
 use clr_model::{CENT, Path, average_week};
 use clr_num::Direction;
@@ -25,6 +26,7 @@ pub struct StoreRows {
 
 impl Model for StoreRows {
     ghost use Rattle.std.specs.Prelude.{◌≡◌, suc, ◌*◌, ℤ, List, length};
+    ghost use Rattle.clr_num.specs.Lists.{numbers};
     ghost use Rattle.clr_path.specs.Flat.{flat_rows};
 
     ghost Value = { List (List ℤ) };
@@ -55,6 +57,7 @@ fn rung_before(path: &Path, done: u32) -> u32
 
 /// The most that a unit of a store earns, sold or left, in units of value.
 fn dearest(season: &Season, store: u32) -> u64
+    requires season { IsSeason season.now }
     requires low { 1 ≤ store }
     requires high { store ≤ length season.now.stores }
     ensures prices { (rung : ℕ) → 1 ≤ rung → rung ≤ length season.now.rules.prices → cent * price season.now.rules rung ≤ result }
@@ -64,17 +67,19 @@ fn dearest(season: &Season, store: u32) -> u64
     CENT * season.price(1).max(season.salvage(store))
 }
 
-/// Writes what each stock is worth at the end.
-fn end_row(season: &Season, store: u32, row: &mut [i64])
+/// What each stock from 0 up is worth at the end.
+fn end_row(alloc: Global, season: &Season, store: u32, width: usize) -> Result<Vec<i64>, AllocError>
     requires low { 1 ≤ store }
     requires high { store ≤ length season.now.stores }
-    requires size { length row.old ≤ 2001 }
-    ensures { EachIndex row.new (λ x. get_or row.new x (pos 0) ≡ pos cent *ℤ salvage_cents season.now store x) }
+    requires size { width ≤ 2001 }
+    ensures { IfOk result (λ row. row.items ≡ map (λ stock. pos cent *ℤ salvage_cents season.now store stock) (numbers 0 width)) }
 {
     let unit = CENT * season.salvage(store);
-    for stock in 0..row.len() {
-        row[stock] = (unit * stock as u64) as i64;
+    let mut row = Vec::with_capacity(alloc, width)?;
+    for stock in 0..width {
+        row.push((unit * stock as u64) as i64)?;
     }
+    Ok(row)
 }
 
 /// The last so many values.
@@ -121,6 +126,7 @@ pub fn build_rows<R: Direction>(
     store: u32,
     path: &Path,
 ) -> Result<StoreRows, AllocError>
+    requires season { IsSeason season.now }
     requires low { 1 ≤ store }
     requires high { store ≤ length season.now.stores }
     requires path { IsPath season.now.rules path.now }
@@ -131,8 +137,7 @@ pub fn build_rows<R: Direction>(
     let cost = CENT * season.relabel(store);
     let reach = dearest(season, store) * u64::from(stock) + cost * u64::from(weeks);
     let width = stock as usize + 1;
-    let mut row = vec![in alloc; 0i64; width]?;
-    end_row(season, store, &mut row);
+    let mut row = end_row(alloc, season, store, width)?;
     let mut values = Vec::with_capacity(alloc, width * (weeks as usize + 1))?;
     values.extend_from_slice(&row)?;
     for back in 0..weeks {

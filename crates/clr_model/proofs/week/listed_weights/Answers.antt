@@ -1,4 +1,4 @@
-use Rattle.std.proofs.Common.{◌≡◌, ℕ, suc, ◌≤◌, length, get_or, sum, ap, sym, ◌∙◌, arith}
+use Rattle.std.proofs.Common.{get_or, ap, ◌∙◌, arith}
 use Rattle.clr_model.proofs.Rows.{sum_same}
 use Rattle.clr_model.proofs.week.listed_weights.Goals as goal
 
