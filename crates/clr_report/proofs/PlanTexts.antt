@@ -6,7 +6,7 @@ use Rattle.clr_num.specs.Money.{cents_text, money_text}
 use Rattle.clr_num.proofs.Fields.{Above, above_lower, above-decimal, decimal_wide_injective}
 use Rattle.clr_num.proofs.MoneyTexts.{money_determines, cents_determine, above-money, above-cents}
 use Rattle.clr_report.specs.declared.plan.PlanSizes.{PlanSizes}
-use Rattle.clr_report.specs.PlanText.{season_line, path_line, prices_line, revenue_line, sizes_of, FitsPlan, IsPlanOf, PlanLinesDetermine, PlanTextDetermines}
+use Rattle.clr_report.specs.PlanText.{season_line, path_line, plan_text, prices_line, revenue_line, sizes_of, FitsPlan, IsPlanOf, PlanLinesDetermine, PlanTextDetermines}
 use Rattle.clr_num.specs.Prices.{IsLadder}
 use Rattle.clr_average.specs.Average.{IsWithin}
 use Rattle.clr_rules.specs.Rules.{IsPath, Rulebook, price}
@@ -141,6 +141,7 @@ fits season path low high is plan = record {
 }
 
 pub plan_determines : PlanTextDetermines
+unfolding plan_text
 plan_determines season path other low high least most is one two same =
     let all = plan_lines_determine (sizes_of season) (sizes_of season) path other (map (price season.rules) path) (map (price season.rules) other) low high least most (fits season path low high is one) (fits season other least most is two) same in
     (all.1, all.3, all.4)

@@ -32,7 +32,7 @@ abbrev pub sizes_of : Season → PlanSizes
 sizes_of season = record { stores = length season.stores; weeks = season.rules.weeks; rungs = length season.rules.prices; base = season.base }
 
 -- the report on a path of a season, with the two ends of its revenue in units of 10^-8 of the currency
-abbrev pub plan_text : Season → List ℕ → ℤ → ℤ → List ℕ
+unfoldable pub plan_text : Season → List ℕ → ℤ → ℤ → List ℕ
 plan_text season path low high = plan_lines (sizes_of season) path (map (price season.rules) path) low high
 
 -- a path of the season, and money of at most 10^20 units in size

@@ -38,6 +38,7 @@ pub struct PlanFacts {
 /// The first lines of the plan report: the season's sizes, the path, its prices and its revenue.
 ///
 /// Each line ends with one line feed. The only error is want of memory.
+#[tactic(auto, unfolding(crate::specs::PlanText::plan_text))]
 pub fn plan_text(
     alloc: Global,
     season: &Season,
