@@ -1,3 +1,4 @@
 pub mod Ladders
 pub mod Rows
 pub mod Sizes
+pub mod Gains

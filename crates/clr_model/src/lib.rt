@@ -8,4 +8,4 @@ mod path;
 mod week;
 
 pub use path::Path;
-pub use week::{CENT, average_week, relabelling};
+pub use week::{CENT, average_week, gain, relabelling};

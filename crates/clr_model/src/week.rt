@@ -1,7 +1,7 @@
 // What a store earns in a week.
 ghost use Rattle.clr_average.specs.Average.{IsWithin};
 ghost use Rattle.clr_model.specs.PathValue.{weighed};
-ghost use Rattle.clr_model.specs.Revenue.{cent, fee};
+ghost use Rattle.clr_model.specs.Revenue.{cent, earn, fee};
 ghost use Rattle.clr_model.specs.Weights.{AreWeights};
 ghost use Rattle.clr_rules.specs.Rules.{price};
 ghost use Rattle.clr_season.specs.Season.{IsPlace, store_at};
@@ -37,6 +37,23 @@ pub fn relabelling(season: &Season, store: u32, before: u32, rung: u32) -> u64
     } else {
         CENT * season.relabel(store)
     }
+}
+
+/// What a store earns in a week with this stock and this demand, on a rung after another, in units of value.
+pub fn gain(season: &Season, store: u32, before: u32, rung: u32, stock: u32, demand: u32) -> i64
+    requires low { 1 ≤ store }
+    requires high { store ≤ length season.now.stores }
+    requires before { (1 ≤ before) × (before ≤ length season.now.rules.prices) }
+    requires rung { (1 ≤ rung) × (rung ≤ length season.now.rules.prices) }
+    requires stock { stock ≤ (store_at season.now store).units }
+    requires demand { demand ≤ season.now.top }
+    ensures value { result ≡ earn season.now store before rung stock demand }
+    ensures size { IsWithin 20000000000000000 result }
+{
+    prove!(demand <= season.top());
+    let sold = stock.min(demand);
+    let earned = unit_gain(season, rung) * u64::from(sold);
+    earned as i64 - relabelling(season, store, before, rung) as i64
 }
 
 /// The weights up to the last positive one.

@@ -3,7 +3,7 @@ use Rattle.std.proofs.Common.{◌≡◌, ℕ, zero, suc, ◌+◌, ◌-◌, ◌�
 use Rattle.std.proofs.lemmas.Bool.{cases_lt}
 use Rattle.std.proofs.lemmas.List.{get_or_past, get_or-map}
 use Rattle.clr_num.specs.Direction.{IsDirection}
-use Rattle.clr_num.specs.Lists.{numbers}
+use Rattle.clr_num.specs.Lists.{numbers, nth}
 use Rattle.clr_num.specs.Sums.{sum_of}
 use Rattle.clr_rules.specs.Rules.{IsPath}
 use Rattle.clr_season.specs.Season.{Season, IsSeason, store_at}
@@ -14,7 +14,7 @@ use Rattle.clr_average.proofs.Within.{within_pos}
 use Rattle.clr_model.specs.PathValue.{path_total, path_value, path_value_at}
 use Rattle.clr_model.specs.Revenue.{full_stocks, of_store}
 use Rattle.clr_model.proofs.Sizes.{path_value_small}
-use Rattle.clr_path.specs.Tables.{IsTable, full_value, path_rows, row_at, store_rows, table_total, value_at}
+use Rattle.clr_path.specs.Tables.{IsRowOf, IsTable, full_value, path_rows, row_at, store_rows, table_total, value_at}
 use Rattle.clr_path.proofs.Lists.{length-numbers, get_or-numbers}
 
 module _ (div : ℤ → ℕ → ℤ) (season : Season) (path : List ℕ) where
@@ -104,3 +104,18 @@ module _ (div : ℤ → ℕ → ℤ) (season : Season) (path : List ℕ) where
   total_is =
       ap (λ n. sum_of n (λ i. full_value (row_at (path_rows div season path) (suc i) 0))) stores_are
       ∙ sum_of-same (length season.stores) (λ i. full_value (row_at (path_rows div season path) (suc i) 0)) (λ i. path_value div season (suc i) 0 1 path (of_store (full_stocks season) (suc i))) full_is
+
+  -- ---- what a caller of the table's calls needs
+
+  pub path_has_row : (store done : ℕ) → 1 ≤ store → store ≤ length season.stores → done ≤ length path → IsRowOf (path_rows div season path) done store
+  path_has_row zero done low high le = absurd (omega arith)
+  path_has_row (suc i) done low high le =
+      let next : 1 + i ≡ suc i = omega arith in
+      let rows : nth (path_rows div season path) (suc i) [] ≡ store_rows div season path (suc i) = get_or-numbers (store_rows div season path) 1 (length season.stores) i [] (omega arith) ∙ ap (store_rows div season path) next in
+      let size : length (store_rows div season path (suc i)) ≡ suc (length path) = length-numbers (λ d. map (path_value_at div season (suc i) path d) (numbers 0 (suc (store_at season (suc i)).units))) 0 (suc (length path)) in
+      let same : length (nth (path_rows div season path) (suc i) []) ≡ length (store_rows div season path (suc i)) = ap length rows in
+      record { first = low; last = omega (arith, high, stores_are); early = omega (arith, same, size, le) }
+
+  pub path_has_stock : (store done stock : ℕ) → 1 ≤ store → store ≤ length season.stores → done ≤ length path → stock ≤ (store_at season store).units → stock < length (row_at (path_rows div season path) store done)
+  path_has_stock zero done stock low high le held = absurd (omega arith)
+  path_has_stock (suc i) done stock low high le held = omega (arith, held, row_size i done (omega arith) le)

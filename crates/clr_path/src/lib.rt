@@ -6,5 +6,7 @@
 
 mod rows;
 mod table;
+#[cfg(test)]
+mod tests;
 
 pub use table::PathTable;
