@@ -77,7 +77,7 @@ struct Answer {
     made: usize,
 }
 
-fn answer<H: Shelf>(
+fn run_on<H: Shelf>(
     alloc: Global,
     words: &[&str],
     shelf: &mut H,
@@ -99,7 +99,7 @@ fn answer<H: Shelf>(
 // The plan of files in memory.
 fn planned(alloc: Global, files: Files<'_>) -> Result<Answer, AllocError> {
     let mut shelf = MemoryShelf::new(held(alloc, files, 0)?, 16, Vec::new(alloc));
-    answer(alloc, &["plan", "f"], &mut shelf, &[])
+    run_on(alloc, &["plan", "f"], &mut shelf, &[])
 }
 
 const SEASONS: [(Files<'static>, &[u8]); 9] = [
@@ -198,21 +198,21 @@ fn real_folders_are_planned(rt: HostRuntime) -> Result<(), Fail> {
     let alloc = rt.alloc();
     fs::create_dir(&rt, "f")?;
     let mut shelf = FileShelf::new(&rt);
-    let absent = answer(alloc, &["plan", "f"], &mut shelf, &[])?;
+    let absent = run_on(alloc, &["plan", "f"], &mut shelf, &[])?;
     assert!(rt; absent.status == Status::NotYet && absent.note.bytes() == NOT_YET.as_bytes());
     for (index, (files, report)) in SEASONS.iter().enumerate() {
         fs::write(&rt, "f/rules.json", files.rules)?;
         fs::write(&rt, "f/ladder.csv", files.ladder)?;
         fs::write(&rt, "f/stock.csv", files.stock)?;
         fs::write(&rt, "f/demand.csv", files.demand)?;
-        let answer = answer(alloc, &["plan", "f"], &mut shelf, &[])?;
+        let answer = run_on(alloc, &["plan", "f"], &mut shelf, &[])?;
         assert!(rt; answer.status == Status::Ok, "{index}");
         assert!(rt; answer.out.bytes() == *report, "{index}");
     }
     // A folder in the place of a file opens, and can't be read.
     fs::create_dir(&rt, "g")?;
     fs::create_dir(&rt, "g/rules.json")?;
-    let folder = answer(alloc, &["plan", "g"], &mut shelf, &[])?;
+    let folder = run_on(alloc, &["plan", "g"], &mut shelf, &[])?;
     assert!(rt; folder.status == Status::ReadFault);
     assert!(rt; folder.note.bytes() == b"read fault: rules.json\n".as_slice());
     Ok(())
@@ -291,7 +291,7 @@ fn other_seasons_are_not_planned_yet(rt: HostRuntime) -> Result<(), Fail> {
     let alloc = rt.alloc();
     for left_out in 1..=4 {
         let mut shelf = MemoryShelf::new(held(alloc, SMALLEST, left_out)?, 16, Vec::new(alloc));
-        let answer = answer(alloc, &["plan", "f"], &mut shelf, &[])?;
+        let answer = run_on(alloc, &["plan", "f"], &mut shelf, &[])?;
         assert!(rt; is_not_yet(&answer), "without file {left_out}");
     }
     for (index, rules) in REFUSED_RULES.iter().enumerate() {
@@ -345,7 +345,7 @@ fn long_and_deep_files_are_told(rt: HostRuntime) -> Result<(), Fail> {
         let rules = padded(alloc, count)?;
         let files = held(alloc, Files { rules: &rules, ..SMALLEST }, 0)?;
         let mut shelf = MemoryShelf::new(files, 1_000_000, Vec::new(alloc));
-        let answer = answer(alloc, &["plan", "f"], &mut shelf, &[])?;
+        let answer = run_on(alloc, &["plan", "f"], &mut shelf, &[])?;
         assert!(rt; is_not_yet(&answer) != fits, "{count}");
         assert!(rt; (answer.status == Status::Ok) == fits, "{count}");
     }
@@ -393,7 +393,7 @@ fn each_call_fails_once(rt: HostRuntime) -> Result<(), Fail> {
     for fail in 1..=19 {
         let fails = list_of(alloc, &[fail])?;
         let mut shelf = MemoryShelf::new(held(alloc, SMALLEST, 0)?, 16, fails);
-        let answer = answer(alloc, &["plan", "f"], &mut shelf, &[])?;
+        let answer = run_on(alloc, &["plan", "f"], &mut shelf, &[])?;
         let note: &[u8] = match fail {
             1..=4 => b"read fault: rules.json\n",
             5..=8 => b"read fault: ladder.csv\n",
@@ -408,7 +408,7 @@ fn each_call_fails_once(rt: HostRuntime) -> Result<(), Fail> {
     }
     for fail in 1..=7 {
         let mut shelf = MemoryShelf::new(held(alloc, SMALLEST, 0)?, 1000, Vec::new(alloc));
-        let answer = answer(alloc, &["plan", "f"], &mut shelf, &[fail])?;
+        let answer = run_on(alloc, &["plan", "f"], &mut shelf, &[fail])?;
         let stands = (16 * (fail as usize - 1)).min(SMALLEST_REPORT.len());
         let failed = stands < SMALLEST_REPORT.len();
         assert!(rt; (answer.status == Status::WriteFault) == failed, "sink {fail}");
@@ -433,7 +433,7 @@ fn words_are_read(rt: HostRuntime) -> Result<(), Fail> {
     ];
     for (index, words) in refused.iter().enumerate() {
         let mut shelf = MemoryShelf::new(held(alloc, SMALLEST, 0)?, 16, Vec::new(alloc));
-        let answer = answer(alloc, words, &mut shelf, &[])?;
+        let answer = run_on(alloc, words, &mut shelf, &[])?;
         assert!(rt; answer.status == Status::Words, "{index}");
         assert!(rt; answer.note.bytes() == USAGE.as_bytes(), "{index}");
         assert!(rt; answer.out.bytes().is_empty(), "{index}");
