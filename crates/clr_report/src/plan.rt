@@ -6,8 +6,8 @@ ghost use Rattle.std.specs.List.{flat_map};
 ghost use Rattle.std.specs.Prelude.{◌≡◌, ◌∷◌, ◌++◌, decimal, map, IfOk, OnOk};
 
 use clr_model::Path;
-use clr_season::Season;
 use clr_num::{print_cents, print_money};
+use clr_season::Season;
 use itoa::Buffer;
 use std::alloc::{AllocError, Global};
 
@@ -39,11 +39,7 @@ pub struct PlanFacts {
 ///
 /// Each line ends with one line feed. The only error is want of memory.
 #[tactic(auto, unfolding(crate::specs::PlanText::plan_text))]
-pub fn plan_text(
-    alloc: Global,
-    season: &Season,
-    facts: &PlanFacts,
-) -> Result<Vec<u8>, AllocError>
+pub fn plan_text(alloc: Global, season: &Season, facts: &PlanFacts) -> Result<Vec<u8>, AllocError>
     requires { IsPlanOf season.now facts.now.path facts.now.low facts.now.high }
     ensures { IfOk result (λ text. text.items ≡ plan_text season.now facts.now.path facts.now.low facts.now.high) }
 {

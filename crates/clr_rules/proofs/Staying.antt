@@ -1,12 +1,11 @@
 -- The path that stays on the first rung.
 use Rattle.std.proofs.lemmas.Bool.{eq-eqb, le-leb}
 use Rattle.std.proofs.lemmas.List.{length-replicate}
-use Rattle.std.proofs.Common.{◌≡◌, ◌∙◌, ℕ, zero, suc, ◌+◌, ◌-◌, ◌*◌, ◌≤◌, refl, sym, ap, arith, Bool, true, false, List, [], ◌∷◌, length, rules}
-use Rattle.std.specs.Prelude.{IsTrue, get_or, replicate, not, ◌==◌, ◌&&◌, ◌||◌, nat_le, nat_lt}
+use Rattle.std.proofs.Common.{◌≡◌, ℕ, zero, suc, ◌+◌, ◌-◌, ◌*◌, refl, arith, Bool, true, false, List, [], ◌∷◌, length}
+use Rattle.std.specs.Prelude.{get_or, replicate, not, ◌==◌, ◌&&◌, ◌||◌, nat_le, nat_lt}
 use Rattle.std.specs.List.{list_all, count_by}
-use Rattle.clr_num.specs.Lists.{numbers, nth}
-use Rattle.clr_rules.specs.declared.season_rules.Window.{Window}
-use Rattle.clr_rules.specs.Rules.{Rulebook, IsRulebook, StayingObeys, are_rungs, each_week, free_window, free_weeks, is_markdown, is_first_markdown, keeps_rise, keeps_window, keeps_frozen, keeps_number, keeps_spacing, keeps_first_cut, obeys, opening_path, price, rung_at, rung_before, window, window_of}
+use Rattle.clr_num.specs.Lists.{numbers}
+use Rattle.clr_rules.specs.Rules.{StayingObeys, are_rungs, each_week, free_weeks, is_markdown, is_first_markdown, keeps_rise, keeps_window, keeps_frozen, keeps_number, keeps_spacing, keeps_first_cut, price, rung_at, rung_before, window, window_of}
 
 -- a list of one item read at any place, where the default is the item too
 same-item : {X : Type 0} (x : X) (n i : ℕ) → get_or (replicate n x) i x ≡ x

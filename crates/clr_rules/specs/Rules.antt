@@ -95,6 +95,7 @@ keeps_rules rules path =
 -- a whole path that keeps the rules
 abbrev pub obeys : Rulebook → List ℕ → Bool
 obeys rules path = (length path == rules.weeks) && keeps_rules rules path
+
 -- ---- what a season's rules may be
 
 -- the rules that these limits, this calendar and these prices make
@@ -119,6 +120,7 @@ pub record IsRulebook (rules : Rulebook) : Type 0 where
   pub cut : rules.first_cut ≤ 100
   pub ladder : IsLadder rules.prices
   pub calendar : length rules.calendar ≡ rules.weeks
+
 -- ---- a season without a calendar
 
 -- a week in which each rung may stand, and which is not frozen

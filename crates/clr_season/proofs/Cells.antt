@@ -1,5 +1,5 @@
 -- How large the numbers of cells are.
-use Rattle.std.proofs.Common.{ℕ, ◌*◌, ◌+◌, ◌≤◌, mul-le-mul, arith}
+use Rattle.std.proofs.Common.{ℕ, ◌*◌, ◌≤◌, mul-le-mul}
 
 pub stock_bound : (weeks rungs counts spacing : ℕ) → weeks ≤ 53 → rungs ≤ 12 → counts ≤ 13 → spacing ≤ 12 → weeks * rungs * counts * spacing ≤ 99216
 stock_bound weeks rungs counts spacing p q r s = mul-le-mul (mul-le-mul (mul-le-mul p q) r) s

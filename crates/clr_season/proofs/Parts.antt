@@ -1,12 +1,12 @@
 -- The parts that the files give belong together.
-use Rattle.std.proofs.Common.{◌≡◌, ◌∙◌, ◌≤◌, ℕ, List, length, sym, ap, arith}
+use Rattle.std.proofs.Common.{◌≤◌, ℕ, List, length}
 use Rattle.clr_rules.specs.Limits.{AreLimits}
-use Rattle.clr_rules.specs.Rules.{IsRulebook, Rulebook, free_weeks, rulebook_of}
+use Rattle.clr_rules.specs.Rules.{IsRulebook, free_weeks, rulebook_of}
 use Rattle.clr_rules.specs.declared.limits.Limits.{Limits}
 use Rattle.clr_stock.specs.Stock.{AreStores, Store}
 use Rattle.clr_demand.specs.Weights.{AreWeights, DemandWeights}
-use Rattle.clr_season.specs.Season.{IsPlace, IsSeason, cells, most_cells}
-use Rattle.clr_season.specs.View.{FitTogether, season_from}
+use Rattle.clr_season.specs.Season.{cells, most_cells}
+use Rattle.clr_season.specs.View.{FitTogether}
 
 pub parts_fit :
     (limits : Limits) (prices : List ℕ) (stores : List Store) (demand : DemandWeights) → AreLimits limits → IsRulebook (rulebook_of limits (free_weeks limits.weeks) prices) → 1 ≤ length stores → AreStores stores →

@@ -1,5 +1,5 @@
 -- What the files of a folder read to.
-use Rattle.std.specs.Prelude.{◌≡◌, ◌++◌, ◌∷◌, ◌==◌, [], ℕ, Bool, false, nat_le, length, map, List, codes, Option, Some, None, IsSome, option_and_then, Result, Ok, Err, if◌then◌else◌}
+use Rattle.std.specs.Prelude.{◌≡◌, ◌++◌, ◌∷◌, ◌==◌, ℕ, Bool, false, nat_le, length, map, List, codes, Option, Some, None, IsSome, option_and_then, Result, Ok, Err, if◌then◌else◌}
 use Rattle.clr_io.specs.Files.{Files, held}
 use Rattle.clr_text.specs.Tables.{Refusal}
 use Rattle.clr_text.specs.declared.file.FileError.{FileError}

@@ -1,5 +1,5 @@
 -- How runs end.
-use Rattle.std.proofs.Common.{◌≡◌, ◌∙◌, sym, inl, inr, refl, ℕ, List, Some, None}
+use Rattle.std.proofs.Common.{◌≡◌, inr, refl, ℕ, List, Some, None}
 use Rattle.std.specs.Prelude.{◌⊎◌, IsSome, Option}
 use Rattle.clr_io.specs.Causes.{Rose}
 use Rattle.clr_io.specs.Files.{Files}

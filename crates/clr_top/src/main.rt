@@ -17,6 +17,7 @@ use std::{env, io};
 
 // The exit statuses of a run that never began.
 const NO_MEMORY: u8 = 8;
+
 const NO_WORDS: u8 = 12;
 
 // The words behind the program's name.

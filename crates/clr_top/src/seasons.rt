@@ -9,7 +9,8 @@ use std::test::Fail;
 
 const NOT_YET: &str = "not yet: season\n";
 
-const USAGE: &str = "usage: clearance plan|check|judge|make FOLDER [--steps N] [--step N] [--nodes N] [--cert NAME] [--seed N]\n";
+const USAGE: &str =
+    "usage: clearance plan|check|judge|make FOLDER [--steps N] [--step N] [--nodes N] [--cert NAME] [--seed N]\n";
 
 // The files of a season.
 #[derive(Clone, Copy)]
@@ -340,10 +341,25 @@ fn padded(alloc: Global, count: usize) -> Result<Vec<u8>, AllocError>
 fn long_and_deep_files_are_told(rt: HostRuntime) -> Result<(), Fail> {
     let alloc = rt.alloc();
     let deep = nested(alloc, 128)?;
-    assert!(rt; is_not_yet(&planned(alloc, Files { rules: &deep, ..SMALLEST })?));
+    assert!(rt;
+        is_not_yet(&planned(
+            alloc,
+            Files {
+                rules: &deep,
+                ..SMALLEST
+            }
+        )?)
+    );
     for (count, fits) in [(33_554_432, true), (33_554_433, false)] {
         let rules = padded(alloc, count)?;
-        let files = held(alloc, Files { rules: &rules, ..SMALLEST }, 0)?;
+        let files = held(
+            alloc,
+            Files {
+                rules: &rules,
+                ..SMALLEST
+            },
+            0,
+        )?;
         let mut shelf = MemoryShelf::new(files, 1_000_000, Vec::new(alloc));
         let answer = run_on(alloc, &["plan", "f"], &mut shelf, &[])?;
         assert!(rt; is_not_yet(&answer) != fits, "{count}");
@@ -382,7 +398,13 @@ fn cells_are_counted(rt: HostRuntime) -> Result<(), Fail> {
         };
         let answer = planned(alloc, files)?;
         assert!(rt; is_not_yet(&answer) != fits);
-        assert!(rt; answer.out.bytes().ends_with(b"revenue 1047.00000000 1047.00000000\n") == fits);
+        assert!(rt;
+            answer
+                .out
+                .bytes()
+                .ends_with(b"revenue 1047.00000000 1047.00000000\n")
+                == fits
+        );
     }
     Ok(())
 }
@@ -402,7 +424,10 @@ fn each_call_fails_once(rt: HostRuntime) -> Result<(), Fail> {
             _ => b"",
         };
         let failed = fail <= 18;
-        assert!(rt; (answer.status == Status::ReadFault) == failed, "shelf {fail}");
+        assert!(rt;
+            (answer.status == Status::ReadFault) == failed,
+            "shelf {fail}"
+        );
         assert!(rt; answer.note.bytes() == note, "shelf {fail}");
         assert!(rt; answer.out.bytes().is_empty() == failed, "shelf {fail}");
     }
@@ -411,8 +436,14 @@ fn each_call_fails_once(rt: HostRuntime) -> Result<(), Fail> {
         let answer = run_on(alloc, &["plan", "f"], &mut shelf, &[fail])?;
         let stands = (16 * (fail as usize - 1)).min(SMALLEST_REPORT.len());
         let failed = stands < SMALLEST_REPORT.len();
-        assert!(rt; (answer.status == Status::WriteFault) == failed, "sink {fail}");
-        assert!(rt; answer.out.bytes() == &SMALLEST_REPORT[..stands], "sink {fail}");
+        assert!(rt;
+            (answer.status == Status::WriteFault) == failed,
+            "sink {fail}"
+        );
+        assert!(rt;
+            answer.out.bytes() == &SMALLEST_REPORT[..stands],
+            "sink {fail}"
+        );
         assert!(rt; (answer.note.bytes() == b"write fault: report\n".as_slice()) == failed);
     }
     Ok(())

@@ -1,9 +1,6 @@
-use Rattle.std.proofs.Common.{◌≡◌, ◌∙◌, sym, subst, true, false, rules, refl}
-use Rattle.std.specs.Prelude.{Result, Err}
+use Rattle.std.proofs.Common.{◌≡◌, ◌∙◌, sym, true, false, refl}
 use Rattle.serde_json.specs.View.{view, members_view}
 use Rattle.serde_json.specs.Find.{as_object}
-use Rattle.clr_text.specs.Tables.{Gives, Refusal}
-use Rattle.clr_rules.specs.declared.limits.Limits.{Limits}
 use Rattle.clr_rules.specs.Limits.{all_known}
 use Rattle.clr_rules.proofs.Names.{known-keys, object-known, object-field}
 use Rattle.clr_rules.proofs.limits.object_rules.Goals as goal

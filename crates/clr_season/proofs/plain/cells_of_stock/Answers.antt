@@ -1,4 +1,4 @@
-use Rattle.std.proofs.Common.{◌+◌, ◌≤◌, ℕ, min, arith, rules}
+use Rattle.std.proofs.Common.{◌+◌, ◌≤◌, rules}
 use Rattle.clr_season.proofs.Cells.{stock_bound}
 use Rattle.clr_season.proofs.plain.cells_of_stock.Goals as goal
 

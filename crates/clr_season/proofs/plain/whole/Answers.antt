@@ -1,4 +1,4 @@
-use Rattle.std.proofs.Common.{◌≡◌, ◌≤◌, sym, arith, rules}
+use Rattle.std.proofs.Common.{◌≡◌, ◌≤◌, rules}
 use Rattle.clr_rules.specs.Rules.{IsRulebook, free_weeks, rulebook_of}
 use Rattle.clr_season.specs.Season.{cells, most_cells}
 use Rattle.clr_season.proofs.Parts.{parts_fit}

@@ -1,4 +1,4 @@
-use Rattle.std.proofs.Common.{◌≡◌, ◌∙◌, sym, rules, SFits}
+use Rattle.std.proofs.Common.{◌≡◌, ◌∙◌, rules, SFits}
 use Rattle.std.proofs.lemmas.Int.{to_z-of_z}
 use mir.Syntax.{w128}
 use Rattle.clr_num.specs.Rounding.{ceil, floor}

@@ -1,4 +1,4 @@
-use Rattle.std.proofs.Common.{◌≡◌, ◌∙◌, sym, rules}
+use Rattle.std.proofs.Common.{◌≡◌, rules}
 use Rattle.clr_rules.specs.Rules.{opening_path}
 use Rattle.clr_top.proofs.Opening.{opening-path}
 use Rattle.clr_top.proofs.plan.opening.Goals as goal

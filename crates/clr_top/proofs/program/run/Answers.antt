@@ -1,4 +1,4 @@
-use Rattle.std.proofs.Common.{◌≡◌, ◌∙◌, sym, ap, refl, map, string_bytes}
+use Rattle.std.proofs.Common.{◌∙◌, sym, ap, refl, map, string_bytes}
 use Rattle.std.specs.Prelude.{Err}
 use Rattle.clr_top.proofs.Ends.{only-memory, write-cause}
 use Rattle.clr_top.proofs.program.run.Goals as goal

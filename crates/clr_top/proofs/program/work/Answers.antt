@@ -1,4 +1,4 @@
-use Rattle.std.proofs.Common.{◌≡◌, ◌∙◌, ℕ, List, Some, sym, rules, map, string_bytes}
+use Rattle.std.proofs.Common.{◌≡◌, Some, rules, map, string_bytes}
 use Rattle.std.specs.Io.KnownBytes.{Appends}
 use Rattle.clr_top.specs.Runs.{AddsFront, first_report, folder_of}
 use Rattle.clr_top.proofs.Reporting.{first-reports}
