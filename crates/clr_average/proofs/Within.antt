@@ -49,7 +49,6 @@ near_within weights after stock reach (suc count) h lt =
 -- ---- averages, rounded in a direction
 
 module _ (leans : ℤ → ℤ → Type 0) (div : ℤ → ℕ → ℤ) (laws : IsDirection leans div) where
-
   parts : (base size : ℕ) → (size + 1) * base ≡ base * size + base
   parts base size = add-mul size 1 base ∙ ap (λ t. t + 1 * base) (mul_comm size base) ∙ ap (λ t. base * size + t) (omega arith)
 

@@ -9,7 +9,7 @@ use Rattle.clr_top.specs.declared.program.Cause.{Cause}
 use Rattle.clr_top.specs.declared.program.Cause.TheVariants.{Words, ReadFault, WriteFault, Memory, NotYet}
 use Rattle.clr_top.specs.declared.program.Status.{Status}
 use Rattle.clr_top.specs.declared.program.Status.TheVariants as s
-use Rattle.clr_top.specs.Runs.{Caused, folder_of, status_of}
+use Rattle.clr_top.specs.Runs.{Caused, OfFolder, folder_of, status_of}
 
 -- the status of a fault of the report is no other cause's
 pub write-cause : (cause : Cause) → status_of cause ≡ s.WriteFault → cause ≡ WriteFault
@@ -18,6 +18,30 @@ write-cause (ReadFault file) e = cc
 write-cause WriteFault e = refl
 write-cause NotYet e = cc
 write-cause Memory e = cc
+
+-- what has happened where a run ends by one of the statuses
+pub not-yet-caused :
+    (files : Option Files) (words : List (List ℕ)) (shelf_old shelf_new out_old out_new : ℕ) (cause : Cause) → status_of cause ≡ s.NotYet → Caused files words shelf_old shelf_new out_old out_new cause →
+    OfFolder files words (λ held folder. season_in held folder ≡ None)
+not-yet-caused files words shelf_old shelf_new out_old out_new Words e caused = cc
+not-yet-caused files words shelf_old shelf_new out_old out_new (ReadFault file) e caused = cc
+not-yet-caused files words shelf_old shelf_new out_old out_new WriteFault e caused = cc
+not-yet-caused files words shelf_old shelf_new out_old out_new NotYet e caused = caused
+not-yet-caused files words shelf_old shelf_new out_old out_new Memory e caused = cc
+
+pub read-caused : (files : Option Files) (words : List (List ℕ)) (shelf_old shelf_new out_old out_new : ℕ) (cause : Cause) → status_of cause ≡ s.ReadFault → Caused files words shelf_old shelf_new out_old out_new cause → Rose shelf_old shelf_new
+read-caused files words shelf_old shelf_new out_old out_new Words e caused = cc
+read-caused files words shelf_old shelf_new out_old out_new (ReadFault file) e caused = caused.0
+read-caused files words shelf_old shelf_new out_old out_new WriteFault e caused = cc
+read-caused files words shelf_old shelf_new out_old out_new NotYet e caused = cc
+read-caused files words shelf_old shelf_new out_old out_new Memory e caused = cc
+
+pub write-caused : (files : Option Files) (words : List (List ℕ)) (shelf_old shelf_new out_old out_new : ℕ) (cause : Cause) → status_of cause ≡ s.WriteFault → Caused files words shelf_old shelf_new out_old out_new cause → Rose out_old out_new
+write-caused files words shelf_old shelf_new out_old out_new Words e caused = cc
+write-caused files words shelf_old shelf_new out_old out_new (ReadFault file) e caused = cc
+write-caused files words shelf_old shelf_new out_old out_new WriteFault e caused = caused
+write-caused files words shelf_old shelf_new out_old out_new NotYet e caused = cc
+write-caused files words shelf_old shelf_new out_old out_new Memory e caused = cc
 
 none-is-no-season : (o : Option Season) → o ≡ None → IsSome o → ⊥
 none-is-no-season None e is = cc

@@ -6,7 +6,7 @@ ghost use Rattle.clr_io.specs.Causes.{Rose};
 ghost use Rattle.clr_io.specs.Files.{Files};
 ghost use Rattle.clr_season.specs.Reads.{season_in};
 ghost use Rattle.clr_season.specs.Season.{Season};
-ghost use Rattle.clr_top.specs.Runs.{AddsFront, Caused, Notes, Reports, doc_of, folder_of, not_yet_text, note_of, number_of, season_cause, status_of, told_as};
+ghost use Rattle.clr_top.specs.Runs.{AddsFront, Caused, Notes, OfFolder, Reports, doc_of, folder_of, not_yet_text, note_of, number_of, season_cause, status_of, told_as};
 ghost use Rattle.clr_top.specs.declared.program.Cause.{Cause};
 
 use crate::plan::first_plan;
@@ -196,6 +196,10 @@ pub fn run<H: Shelf, D: Desk, O: Sink, N: Sink>(
     ensures caused { result ≢ Status.Ok → (cause : Cause) × (result ≡ status_of cause)
         × Caused (H.files shelf.old) (map string_bytes words.now) (H.faults shelf.old) (H.faults shelf.new) (O.faults out.old) (O.faults out.new) cause
         × Notes (N.written note.old) (N.written note.new) (N.faults note.old) (N.faults note.new) cause }
+
+    ensures not_yet { result ≡ Status.NotYet → OfFolder (H.files shelf.old) (map string_bytes words.now) (λ held folder. season_in held folder ≡ None) }
+    ensures read { result ≡ Status.ReadFault → Rose (H.faults shelf.old) (H.faults shelf.new) }
+    ensures write { result ≡ Status.WriteFault → Rose (O.faults out.old) (O.faults out.new) }
 
     // What stands afterwards.
     ensures front { result ≡ Status.WriteFault → Reports (H.files shelf.old) (map string_bytes words.now) (λ text. AddsFront (O.written out.old) (O.written out.new) text) }
