@@ -5,8 +5,6 @@
 #![tactic(auto)]
 
 mod row;
-#[cfg(test)]
-mod tests;
 mod total;
 
 pub use row::{average_row, average_values, lower_values};

@@ -1,12 +1,12 @@
 -- What a store earns in a week, at 64 bits.
-use Rattle.std.proofs.Common.{◌≡◌, ℕ, ◌+◌, ◌-◌, ◌*◌, ◌^◌, ◌≤◌, ◌<◌, min, ℤ, pos, neg_ℤ, ◌+ℤ◌, ◌-ℤ◌, ◌*ℤ◌, ap, ap₂, sym, ◌∙◌, subst, arith, mul_assoc, mul-le-mul, to_z, of_z, SFits}
+use Rattle.std.proofs.Common.{◌≡◌, ℕ, ◌*◌, ◌^◌, ◌≤◌, ◌<◌, min, pos, neg_ℤ, ◌+ℤ◌, ◌-ℤ◌, ◌*ℤ◌, ap, ap₂, sym, ◌∙◌, subst, arith, mul_assoc, mul-le-mul, to_z, of_z, SFits}
 use Rattle.std.proofs.lemmas.Int.{ints, to_z-of_z}
 use mir.Syntax.{w64}
 use Rattle.clr_rules.specs.Rules.{price}
 use Rattle.clr_season.specs.Season.{Season}
 use Rattle.clr_average.specs.Average.{IsWithin}
 use Rattle.clr_average.proofs.Ring.{linear, mul_add}
-use Rattle.clr_average.proofs.Within.{within_64, within_more, within_pos}
+use Rattle.clr_average.proofs.Within.{within_64, within_pos}
 use Rattle.clr_model.specs.Revenue.{cent, earn, fee, week_cents}
 use Rattle.clr_model.proofs.Rows.{turn}
 

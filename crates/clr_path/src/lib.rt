@@ -6,7 +6,5 @@
 
 mod rows;
 mod table;
-#[cfg(test)]
-mod tests;
 
 pub use table::PathTable;

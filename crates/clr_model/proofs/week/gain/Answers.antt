@@ -1,4 +1,4 @@
-use Rattle.std.proofs.Common.{◌≡◌, ◌≤◌, ◌<◌, ◌^◌, ◌*◌, ◌∙◌, arith, Fits, w64}
+use Rattle.std.proofs.Common.{◌≤◌, ◌<◌, ◌^◌, ◌*◌, ◌∙◌, arith}
 use Rattle.clr_model.proofs.Gains.{cast_fits, gain_fits, gain_is, gain_read, gain_small, product_fits}
 use Rattle.clr_model.proofs.week.gain.Goals as goal
 
