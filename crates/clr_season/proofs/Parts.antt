@@ -11,13 +11,15 @@ use Rattle.clr_season.specs.View.{FitTogether}
 pub parts_fit :
     (limits : Limits) (prices : List ℕ) (stores : List Store) (demand : DemandWeights) → AreLimits limits → IsRulebook (rulebook_of limits (free_weeks limits.weeks) prices) → 1 ≤ length stores → AreStores stores →
     AreWeights (length stores) limits.weeks (length prices) limits.base demand → cells (rulebook_of limits (free_weeks limits.weeks) prices) stores ≤ most_cells →
-    FitTogether (rulebook_of limits (free_weeks limits.weeks) prices) stores limits.base demand
+    FitTogether limits.version (rulebook_of limits (free_weeks limits.weeks) prices) stores limits.base demand
 parts_fit limits prices stores demand ranges book some all weights few = record {
   stores_are = weights.stores_are;
   weeks_are = weights.weeks_are;
   rungs_are = weights.rungs_are;
   base_is = weights.base_are;
   season = record {
+    first_version = ranges.first_version;
+    last_version = ranges.last_version;
     rules = book;
     some = some;
     stores = all;

@@ -1,13 +1,14 @@
 -- A markdown season. Stores, weeks and rungs are counted from 1, demands from 0. Prices, salvages and costs are in cents.
-use Rattle.std.specs.Prelude.{◌≡◌, ◌≤◌, ℕ, suc, ◌+◌, ◌-◌, ◌*◌, min, List, [], length, get_or, sum}
+use Rattle.std.specs.Prelude.{◌≡◌, ◌≤◌, ℕ, suc, ◌+◌, ◌-◌, ◌*◌, min, List, [], length, get_or, drop, sum}
 use Rattle.std.specs.List.{sum_by}
 use Rattle.clr_num.specs.Lists.{numbers, nth}
 use Rattle.clr_rules.specs.Rules.{Rulebook, IsRulebook}
 use Rattle.clr_stock.specs.Stock.{Store, AreStores, no_store}
 
--- The rules, the stores, the base that weights sum to, the greatest demand that is listed, and the weights of all
+-- The version of the rules file, the rules, the stores, the base that weights sum to, the greatest demand that is listed, and the weights of all
 -- demands: by store, week and rung, and then by units from 0 to the greatest.
 pub record Season : Type 0 where
+  pub version : ℕ
   pub rules : Rulebook
   pub stores : List Store
   pub base : ℕ
@@ -28,6 +29,10 @@ weights_of season store week rung = nth (nth (nth season.weights store []) week 
 -- the weight of a demand at a store in a week on a rung
 abbrev pub weight : Season → ℕ → ℕ → ℕ → ℕ → ℕ
 weight season store week rung demand = get_or (weights_of season store week rung) demand 0
+
+-- the weight of all demands of at least so many units
+abbrev pub tail : Season → ℕ → ℕ → ℕ → ℕ → ℕ
+tail season store week rung units = sum (drop units (weights_of season store week rung))
 
 -- the numbers of a store, a week and a rung of the season
 pub record IsPlace (season : Season) (store week rung : ℕ) : Type 0 where
@@ -52,11 +57,13 @@ abbrev pub cells : Rulebook → List Store → ℕ
 cells rules stores = sum_by (λ store. store_cells rules store.units) stores
 
 abbrev pub most_cells : ℕ
-most_cells = 8000000
+most_cells = 16000000
 
 -- What holds of every season: the rules, the stores and the numbers lie within their limits, and the weights of each
 -- store, week and rung are as many as there are demands and sum to the base.
 pub record IsSeason (season : Season) : Type 0 where
+  pub first_version : 1 ≤ season.version
+  pub last_version : season.version ≤ 3
   pub rules : IsRulebook season.rules
   pub some : 1 ≤ length season.stores
   pub stores : AreStores season.stores

@@ -1,7 +1,8 @@
 //! The season that a folder's files read to.
 #![tactic(auto)]
 
-mod plain;
+mod files;
+mod whole;
 mod reads;
 mod season;
 

@@ -1,108 +1,104 @@
-// The files of a folder, read whole.
-ghost use Rattle.std.specs.Prelude.{◌≡◌, ◌≤◌, ℕ, IfOk, IfSome, IsErrOf, Some, None, string_bytes, length};
+// The season of a folder.
+ghost use Rattle.std.specs.Prelude.{◌≡◌, ◌≤◌, ◌<◌, IfOk, IfSome, IsErrOf};
 ghost use Rattle.clr_io.specs.Causes.{Rose};
-ghost use Rattle.clr_io.specs.Files.{Files};
 ghost use Rattle.clr_rules.specs.Rules.{free_weeks};
 ghost use Rattle.clr_season.specs.Season.{IsSeason};
-ghost use Rattle.clr_season.specs.Reads.{HeldBefore, fetched, name_of, path_of, season_in};
+ghost use Rattle.clr_season.specs.Reads.{Gives, are_plain, season_in};
 
-use crate::plain::judge;
+use crate::files::{folder_demand, folder_ladder, folder_limits, folder_stock};
+use crate::whole::season_of_parts;
 use crate::season::Season;
-use clr_io::{ReadError, Shelf, read_whole};
-use std::alloc::{AllocError, Global};
+use clr_io::Shelf;
+use clr_rules::Limits;
+use clr_text::Why;
+use std::alloc::Global;
+use thiserror::Error;
 
-/// The files of a season's folder.
+/// The files of a season's folder, in the order in which they are read.
 #[derive(Clone, Copy, Debug, PartialEq, Eq)]
 pub enum File {
+    /// The rules, rules.json.
     Rules,
+    /// The weeks in which markdowns may be taken, calendar.csv.
+    Calendar,
+    /// The prices, ladder.csv.
     Ladder,
+    /// The stores and their stock, stock.csv.
     Stock,
+    /// The demand weights, demand.csv.
     Demand,
 }
 
 /// Why a folder gives no season.
-#[derive(Clone, Copy, Debug, PartialEq, Eq)]
+#[derive(Clone, Copy, Debug, PartialEq, Eq, Error)]
 pub enum SeasonError {
     /// The shelf failed while it opened or read this file.
+    #[error("{file:?} could not be read")]
     Read { file: File },
-    /// A file isn't held or is too long, or the season isn't plain.
+    /// The shelf holds no such file.
+    #[error("{file:?} is absent")]
+    Absent { file: File },
+    /// The file has more than 33,554,432 bytes.
+    #[error("{file:?} is too long")]
+    TooLong { file: File },
+    /// The file breaks a rule of its form, first at this row and column; either is 0 where the cause has none.
+    #[error("{file:?} is refused at row {row}, column {column}: {why:?}")]
+    Refused {
+        file: File,
+        row: u32,
+        column: u32,
+        why: Why,
+    },
+    /// The tables of the season would have so many cells, and that is more than 16,000,000.
+    #[error("{found} cells are too many")]
+    Cells { found: u64 },
+    /// The rules are other than those where the fields `markdowns`, `spacing`, `first_cut` and `calendar` are absent.
+    #[error("not yet planned")]
     NotYet,
     /// Memory was wanting.
+    #[error("out of memory")]
     Memory,
 }
 
-const MOST_BYTES: u64 = 33_554_432;
-
-fn file_name(file: File) -> &'static str
-    ensures { result.now ≡ name_of file }
+fn is_plain(limits: Limits) -> bool
+    ensures { result ≡ are_plain limits }
 {
-    match file {
-        File::Rules => "rules.json",
-        File::Ladder => "ladder.csv",
-        File::Stock => "stock.csv",
-        File::Demand => "demand.csv",
-    }
+    limits.markdowns == 12 && limits.spacing == 1 && limits.first_cut == 100 && !limits.calendar
 }
 
-fn path(alloc: Global, folder: &str, file: File) -> Result<String, AllocError>
-    ensures { IfOk result (λ s. string_bytes s ≡ path_of folder.now (name_of file)) }
-{
-    let mut path = String::from_str(alloc, folder)?;
-    path.push_str("/")?;
-    path.push_str(file_name(file))?;
-    Ok(path)
-}
-
-// The bytes of a file of the folder.
-#[tactic(auto, unfolding(crate::specs::Reads::fetched))]
-fn fetch<H: Shelf>(
-    alloc: Global,
-    shelf: &mut H,
-    folder: &str,
-    file: File,
-) -> Result<Vec<u8>, SeasonError>
-    ensures bytes { IfOk result (λ v. IfSome (H.files shelf.old) (λ files. fetched files folder.now file ≡ Some v.items)) }
-    ensures short { IfOk result (λ v. length v.items ≤ 33554432) }
-    ensures not_yet { IsErrOf result SeasonError.NotYet → IfSome (H.files shelf.old) (λ files. fetched files folder.now file ≡ None) }
-    ensures read { (f : File) → IsErrOf result (SeasonError.Read f) → (f ≡ file) × Rose (H.faults shelf.old) (H.faults shelf.new) }
-    ensures files { H.files shelf.new ≡ H.files shelf.old }
-    ensures later { H.faults shelf.old ≤ H.faults shelf.new }
-{
-    let Ok(path) = path(alloc, folder, file) else {
-        return Err(SeasonError::Memory);
-    };
-    match read_whole(alloc, shelf, path.as_str(), MOST_BYTES) {
-        Ok(bytes) => Ok(bytes),
-        Err(ReadError::Failed) => Err(SeasonError::Read { file }),
-        Err(ReadError::Memory) => Err(SeasonError::Memory),
-        Err(_) => Err(SeasonError::NotYet),
-    }
-}
-
-/// The season of the files rules.json, ladder.csv, stock.csv and demand.csv of a folder, where it is plain: one store,
-/// no rule but the number of weeks and the base, and no more cells than 8,000,000.
+/// The season of a folder: of its files rules.json, ladder.csv, stock.csv and demand.csv, in this order. Each is held,
+/// not too long and read before the next is opened. The season's version is that of rules.json: from version 2 on
+/// stock.csv has a cost of relabelling, and in version 3 the weights are scaled to the base.
 ///
-/// `Read` comes only where the shelf's faults rose. `NotYet` comes where a file isn't held or has more than 33,554,432
-/// bytes, and where all four were read and are no plain season. Whatever comes, the shelf stands where its last call
-/// left it.
+/// # Errors
+///
+/// The first thing that stands against the season: file by file `Read` (only where the shelf's faults rose), `Absent`,
+/// `TooLong` (only where more than 33,554,432 bytes were taken) and `Refused`, the first refusal of the file's content;
+/// behind rules.json `NotYet`; and behind all files `Cells`. `Memory` may come anywhere. Whatever comes, the shelf
+/// stands where its last call left it.
 #[tactic(auto, unfolding(crate::specs::Reads::season_in))]
 pub fn read_season<H: Shelf>(
     alloc: Global,
     shelf: &mut H,
     folder: &str,
 ) -> Result<Season, SeasonError>
-    ensures season { IfOk result (λ s. IfSome (H.files shelf.old) (λ files. season_in files folder.now ≡ Some s)) }
+    ensures gives { IfSome (H.files shelf.old) (λ files. Gives (λ s. s) result (season_in files folder.now)) }
     ensures plain { IfOk result (λ s. s.rules.calendar ≡ free_weeks s.rules.weeks) }
     ensures facts { IfOk result (λ s. IsSeason s) }
-    ensures not_yet { IsErrOf result SeasonError.NotYet → IfSome (H.files shelf.old) (λ files. season_in files folder.now ≡ None) }
+
+    // Over every shelf, whether it tells its files or not.
     ensures read { (f : File) → IsErrOf result (SeasonError.Read f) → Rose (H.faults shelf.old) (H.faults shelf.new) }
-    ensures before { (f : File) → IsErrOf result (SeasonError.Read f) → IfSome (H.files shelf.old) (λ files. HeldBefore files folder.now f) }
+    ensures too_long { (f : File) → IsErrOf result (SeasonError.TooLong f) → 33554432 < H.taken shelf.new }
+
     ensures files { H.files shelf.new ≡ H.files shelf.old }
     ensures later { H.faults shelf.old ≤ H.faults shelf.new }
 {
-    let rules = fetch(alloc, shelf, folder, File::Rules)?;
-    let ladder = fetch(alloc, shelf, folder, File::Ladder)?;
-    let stock = fetch(alloc, shelf, folder, File::Stock)?;
-    let demand = fetch(alloc, shelf, folder, File::Demand)?;
-    judge(alloc, &rules, &ladder, &stock, &demand)
+    let limits = folder_limits(alloc, shelf, folder)?;
+    if !is_plain(limits) {
+        return Err(SeasonError::NotYet);
+    }
+    let ladder = folder_ladder(alloc, shelf, folder)?;
+    let stock = folder_stock(alloc, shelf, folder, limits)?;
+    let demand = folder_demand(alloc, shelf, folder, limits, &ladder, &stock)?;
+    season_of_parts(alloc, limits, &ladder, stock, demand)
 }

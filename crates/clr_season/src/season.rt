@@ -1,7 +1,7 @@
 // A season as the code keeps it.
 ghost use Rattle.std.specs.Prelude.{◌≡◌, ◌≤◌, ℕ, suc, length, map, sum};
 ghost use Rattle.clr_rules.specs.Rules.{price};
-ghost use Rattle.clr_season.specs.Season.{IsPlace, IsSeason, store_at, weights_of, weight};
+ghost use Rattle.clr_season.specs.Season.{IsPlace, IsSeason, store_at, tail, weights_of, weight};
 ghost use Rattle.clr_season.specs.View.{FitTogether, season_from};
 
 use clr_demand::Demand;
@@ -14,6 +14,7 @@ use std::marker::Model;
 /// from 1. It is seen as the `Season` of the definitions, and `IsSeason` holds of it.
 #[derive(Drop)]
 pub struct Season {
+    version: u32,
     rules: Rules,
     stock: Stock,
     base: u32,
@@ -26,23 +27,38 @@ impl Model for Season {
 
     ghost Value = { Season };
 
-    ghost view = { λ s. season_from s.rules s.stock s.base s.demand };
+    ghost view = { λ s. season_from s.version s.rules s.stock s.base s.demand };
 
-    ghost invariant = { λ s. FitTogether s.rules s.stock s.base s.demand };
+    ghost invariant = { λ s. FitTogether s.version s.rules s.stock s.base s.demand };
 }
 
 impl Season {
     // The season of parts that belong together.
-    pub(crate) fn of_parts(rules: Rules, stock: Stock, base: u32, demand: Demand) -> Season
-        requires { FitTogether rules stock base demand }
-        ensures { result ≡ season_from rules stock base demand }
+    pub(crate) fn of_parts(
+        version: u32,
+        rules: Rules,
+        stock: Stock,
+        base: u32,
+        demand: Demand,
+    ) -> Season
+        requires { FitTogether version rules stock base demand }
+        ensures { result ≡ season_from version rules stock base demand }
     {
         Season {
+            version,
             rules,
             stock,
             base,
             demand,
         }
+    }
+
+    /// The version of rules.json, from 1 to 3.
+    pub fn version(&self) -> u32
+        ensures value { result ≡ self.now.version }
+        ensures facts { IsSeason self.now }
+    {
+        self.version
     }
 
     /// The number of stores, from 1 to 64.
@@ -143,6 +159,16 @@ impl Season {
         ensures range { result ≤ self.now.base }
     {
         self.demand.weight(store, week, rung, units)
+    }
+
+    /// The weight of all demands of at least so many units, of a store in a week on a rung, out of the base. One unit
+    /// past the greatest demand it is 0.
+    pub fn tail(&self, store: u32, week: u32, rung: u32, units: u32) -> u32
+        requires place { IsPlace self.now store week rung }
+        requires units { units ≤ suc self.now.top }
+        ensures { result ≡ tail self.now store week rung units }
+    {
+        self.demand.tail(store, week, rung, units)
     }
 
     /// The names of the stores.

@@ -1,65 +1,145 @@
 -- How runs end.
-use Rattle.std.proofs.Common.{◌≡◌, inr, refl, ℕ, List, Some, None}
-use Rattle.std.specs.Prelude.{◌⊎◌, IsSome, Option}
+use Rattle.std.proofs.Common.{◌≡◌, ◌≤◌, ◌<◌, inl, inr, refl, sym, ◌∙◌, ap, ℕ, List, Some, None}
+use Rattle.std.specs.Prelude.{◌⊎◌, IfSome, IsOk, Option, Result, Ok, Err}
 use Rattle.clr_io.specs.Causes.{Rose}
 use Rattle.clr_io.specs.Files.{Files}
-use Rattle.clr_season.specs.Reads.{season_in}
+use Rattle.clr_words.specs.Asked.{Ask, asked_of}
+use Rattle.clr_season.specs.Reads.{Gives, Stop, absent, most_bytes, not_yet, refused, season_in, too_long, too_many_cells}
 use Rattle.clr_season.specs.Season.{Season}
-use Rattle.clr_top.specs.declared.program.Cause.{Cause}
-use Rattle.clr_top.specs.declared.program.Cause.TheVariants.{Words, ReadFault, WriteFault, Memory, NotYet}
-use Rattle.clr_top.specs.declared.program.Status.{Status}
-use Rattle.clr_top.specs.declared.program.Status.TheVariants as s
-use Rattle.clr_top.specs.Runs.{Caused, OfFolder, folder_of, status_of}
+use Rattle.clr_season.specs.declared.reads.File.{File}
+use Rattle.clr_season.specs.declared.reads.SeasonError.{SeasonError}
+use Rattle.clr_season.specs.declared.reads.SeasonError.TheVariants as e
+use Rattle.clr_report.specs.declared.note.Cause.{Cause}
+use Rattle.clr_report.specs.declared.note.Cause.TheVariants.{Words, Refused, NoPath, ReadFault, Absent, WriteFault, TooLong, Cells, Memory}
+use Rattle.clr_report.specs.declared.note.Doc.TheVariants as d
+use Rattle.clr_top.specs.declared.ending.Ending.{Ending}
+use Rattle.clr_top.specs.declared.ending.Ending.TheVariants.{By, NotYet}
+use Rattle.clr_top.specs.declared.ending.Word.{Word}
+use Rattle.clr_top.specs.declared.ending.Word.TheVariants as w
+use Rattle.clr_top.specs.declared.ending.Status.{Status}
+use Rattle.clr_top.specs.declared.ending.Status.TheVariants as s
+use Rattle.clr_top.specs.Runs.{ByFiles, Caused, Exactly, asked_plan, doc_of, ending_by, plan_asked, planned, season_asked, season_for, status_of, stopped, unless_stopped}
 
--- the status of a fault of the report is no other cause's
-pub write-cause : (cause : Cause) → status_of cause ≡ s.WriteFault → cause ≡ WriteFault
-write-cause Words e = cc
-write-cause (ReadFault file) e = cc
-write-cause WriteFault e = refl
-write-cause NotYet e = cc
-write-cause Memory e = cc
+-- ---- by an error of the season
 
--- what has happened where a run ends by one of the statuses
-pub not-yet-caused :
-    (files : Option Files) (words : List (List ℕ)) (shelf_old shelf_new out_old out_new : ℕ) (cause : Cause) → status_of cause ≡ s.NotYet → Caused files words shelf_old shelf_new out_old out_new cause →
-    OfFolder files words (λ held folder. season_in held folder ≡ None)
-not-yet-caused files words shelf_old shelf_new out_old out_new Words e caused = cc
-not-yet-caused files words shelf_old shelf_new out_old out_new (ReadFault file) e caused = cc
-not-yet-caused files words shelf_old shelf_new out_old out_new WriteFault e caused = cc
-not-yet-caused files words shelf_old shelf_new out_old out_new NotYet e caused = caused
-not-yet-caused files words shelf_old shelf_new out_old out_new Memory e caused = cc
+stopped-so : (given : Result Season Stop) (stop : Stop) → given ≡ Err stop → unless_stopped given ≡ Err (stopped stop)
+stopped-so given stop is = rw is refl
 
-pub read-caused : (files : Option Files) (words : List (List ℕ)) (shelf_old shelf_new out_old out_new : ℕ) (cause : Cause) → status_of cause ≡ s.ReadFault → Caused files words shelf_old shelf_new out_old out_new cause → Rose shelf_old shelf_new
-read-caused files words shelf_old shelf_new out_old out_new Words e caused = cc
-read-caused files words shelf_old shelf_new out_old out_new (ReadFault file) e caused = caused.0
-read-caused files words shelf_old shelf_new out_old out_new WriteFault e caused = cc
-read-caused files words shelf_old shelf_new out_old out_new NotYet e caused = cc
-read-caused files words shelf_old shelf_new out_old out_new Memory e caused = cc
+by-files :
+    (files : Option Files) (words : List (List ℕ)) (ask : Ask) (stop : Stop) → asked_plan words ≡ Ok ask → IfSome files (λ held. season_in held ask.folder ≡ Err stop) →
+    ByFiles files words (stopped stop)
+by-files None words ask stop asked is = (ask, asked, tt)
+by-files (Some held) words ask stop asked is = (ask, asked, stopped-so (season_in held ask.folder) stop is)
 
-pub write-caused : (files : Option Files) (words : List (List ℕ)) (shelf_old shelf_new out_old out_new : ℕ) (cause : Cause) → status_of cause ≡ s.WriteFault → Caused files words shelf_old shelf_new out_old out_new cause → Rose out_old out_new
-write-caused files words shelf_old shelf_new out_old out_new Words e caused = cc
-write-caused files words shelf_old shelf_new out_old out_new (ReadFault file) e caused = cc
-write-caused files words shelf_old shelf_new out_old out_new WriteFault e caused = caused
-write-caused files words shelf_old shelf_new out_old out_new NotYet e caused = cc
-write-caused files words shelf_old shelf_new out_old out_new Memory e caused = cc
+-- an error of the season that is asked, and why the run ends by it
+pub season-caused :
+    (files : Option Files) (words : List (List ℕ)) (ask : Ask) (taken shelf_old shelf_new out_old out_new : ℕ) (error : SeasonError) → asked_plan words ≡ Ok ask →
+    IfSome files (λ held. Gives {X = Season} {Y = Season} (λ s. s) (Err error) (season_in held ask.folder)) →
+    ((file : File) → error ≡ e.Read file → Rose shelf_old shelf_new) → ((file : File) → error ≡ e.TooLong file → most_bytes < taken) →
+    Caused files words taken shelf_old shelf_new out_old out_new (ending_by error)
+season-caused files words ask taken shelf_old shelf_new out_old out_new (e.Read file) asked given rose long = (rose file refl, ask, file, asked, refl, given)
+season-caused files words ask taken shelf_old shelf_new out_old out_new (e.Absent file) asked given rose long = by-files files words ask (absent file) asked given
+season-caused files words ask taken shelf_old shelf_new out_old out_new (e.TooLong file) asked given rose long = (long file refl, by-files files words ask (too_long file) asked given)
+season-caused files words ask taken shelf_old shelf_new out_old out_new (e.Refused file row column why) asked given rose long =
+    by-files files words ask (refused file (record { row = row; column = column; why = why })) asked given
+season-caused files words ask taken shelf_old shelf_new out_old out_new (e.Cells found) asked given rose long = by-files files words ask (too_many_cells found) asked given
+season-caused files words ask taken shelf_old shelf_new out_old out_new e.NotYet asked given rose long = by-files files words ask not_yet asked given
+season-caused files words ask taken shelf_old shelf_new out_old out_new e.Memory asked given rose long = tt
 
-none-is-no-season : (o : Option Season) → o ≡ None → IsSome o → ⊥
-none-is-no-season None e is = cc
-none-is-no-season (Some season) e is = cc
+-- ---- the statuses
 
-same-folder : (a b : List ℕ) (o : Option (List ℕ)) → o ≡ Some a → o ≡ Some b → a ≡ b
-same-folder a b o e f = cc
+-- the status of a fault of the report is no other ending's
+pub write-ending : (files : Option Files) (words : List (List ℕ)) (taken shelf_old shelf_new out_old out_new : ℕ) (ending : Ending) → status_of ending ≡ s.WriteFault → Caused files words taken shelf_old shelf_new out_old out_new ending →
+    (ending ≡ By (WriteFault d.Report)) × Rose out_old out_new
+write-ending files words taken shelf_old shelf_new out_old out_new (By Words) is caused = cc
+write-ending files words taken shelf_old shelf_new out_old out_new (By (Refused doc row column why)) is caused = cc
+write-ending files words taken shelf_old shelf_new out_old out_new (By NoPath) is caused = cc
+write-ending files words taken shelf_old shelf_new out_old out_new (By (ReadFault doc)) is caused = cc
+write-ending files words taken shelf_old shelf_new out_old out_new (By (Absent doc)) is caused = cc
+write-ending files words taken shelf_old shelf_new out_old out_new (By (WriteFault doc)) is caused = (rw caused.0 refl, caused.1)
+write-ending files words taken shelf_old shelf_new out_old out_new (By (TooLong doc max)) is caused = cc
+write-ending files words taken shelf_old shelf_new out_old out_new (By (Cells found)) is caused = cc
+write-ending files words taken shelf_old shelf_new out_old out_new (By Memory) is caused = cc
+write-ending files words taken shelf_old shelf_new out_old out_new (NotYet word) is caused = cc
 
--- where the season is plain and nothing fails, memory was wanting
+pub read-caused : (files : Option Files) (words : List (List ℕ)) (taken shelf_old shelf_new out_old out_new : ℕ) (ending : Ending) → status_of ending ≡ s.ReadFault → Caused files words taken shelf_old shelf_new out_old out_new ending →
+    Rose shelf_old shelf_new
+read-caused files words taken shelf_old shelf_new out_old out_new (By Words) is caused = cc
+read-caused files words taken shelf_old shelf_new out_old out_new (By (Refused doc row column why)) is caused = cc
+read-caused files words taken shelf_old shelf_new out_old out_new (By NoPath) is caused = cc
+read-caused files words taken shelf_old shelf_new out_old out_new (By (ReadFault doc)) is caused = caused.0
+read-caused files words taken shelf_old shelf_new out_old out_new (By (Absent doc)) is caused = cc
+read-caused files words taken shelf_old shelf_new out_old out_new (By (WriteFault doc)) is caused = cc
+read-caused files words taken shelf_old shelf_new out_old out_new (By (TooLong doc max)) is caused = cc
+read-caused files words taken shelf_old shelf_new out_old out_new (By (Cells found)) is caused = cc
+read-caused files words taken shelf_old shelf_new out_old out_new (By Memory) is caused = cc
+read-caused files words taken shelf_old shelf_new out_old out_new (NotYet word) is caused = cc
+
+pub words-caused : (files : Option Files) (words : List (List ℕ)) (taken shelf_old shelf_new out_old out_new : ℕ) (ending : Ending) → status_of ending ≡ s.Words → Caused files words taken shelf_old shelf_new out_old out_new ending →
+    asked_of words ≡ None
+words-caused files words taken shelf_old shelf_new out_old out_new (By Words) is caused = caused
+words-caused files words taken shelf_old shelf_new out_old out_new (By (Refused doc row column why)) is caused = cc
+words-caused files words taken shelf_old shelf_new out_old out_new (By NoPath) is caused = cc
+words-caused files words taken shelf_old shelf_new out_old out_new (By (ReadFault doc)) is caused = cc
+words-caused files words taken shelf_old shelf_new out_old out_new (By (Absent doc)) is caused = cc
+words-caused files words taken shelf_old shelf_new out_old out_new (By (WriteFault doc)) is caused = cc
+words-caused files words taken shelf_old shelf_new out_old out_new (By (TooLong doc max)) is caused = cc
+words-caused files words taken shelf_old shelf_new out_old out_new (By (Cells found)) is caused = cc
+words-caused files words taken shelf_old shelf_new out_old out_new (By Memory) is caused = cc
+words-caused files words taken shelf_old shelf_new out_old out_new (NotYet word) is caused = cc
+
+-- ---- exactly where the words and the files say so
+
+exactly-of : (status : Status) (given : Result Season Ending) (ending : Ending) → given ≡ Err ending → status ≡ status_of ending → Exactly status given
+exactly-of status given ending is by = rw is (inl by)
+
+by-words : (held : Files) (words : List (List ℕ)) (ending : Ending) → asked_plan words ≡ Err ending → planned held words ≡ Err ending
+by-words held words ending is = rw is refl
+
+no-words : (words : List (List ℕ)) → asked_of words ≡ None → asked_plan words ≡ Err (By Words)
+unfolding asked_plan
+no-words words none = rw none refl
+
+files-end : (held : Files) (words : List (List ℕ)) (ending : Ending) → ByFiles (Some held) words ending → planned held words ≡ Err ending
+files-end held words ending (ask, asked, is) = rw asked is
+
+planned-fails : (given : Result Season Ending) → IsOk given → Exactly s.WriteFault given
+planned-fails (Ok season) is = inr (inl refl)
+planned-fails (Err ending) is = cc
+
+reading-fails : (given : Result Season Ending) → Exactly s.ReadFault given
+reading-fails (Ok season) = inr (inr (inl refl))
+reading-fails (Err ending) = inr (inl refl)
+
+memory-wanting : (given : Result Season Ending) → Exactly s.Memory given
+memory-wanting (Ok season) = inr (inr (inr refl))
+memory-wanting (Err ending) = inr (inr refl)
+
+pub exactly-caused :
+    (held : Files) (words : List (List ℕ)) (taken shelf_old shelf_new out_old out_new : ℕ) (ending : Ending) → Caused (Some held) words taken shelf_old shelf_new out_old out_new ending → Exactly (status_of ending) (planned held words)
+exactly-caused held words taken shelf_old shelf_new out_old out_new (By Words) caused =
+    exactly-of s.Words (planned held words) (By Words) (by-words held words (By Words) (no-words words caused)) refl
+exactly-caused held words taken shelf_old shelf_new out_old out_new (By (Refused doc row column why)) caused =
+    exactly-of s.Refused (planned held words) (By (Refused doc row column why)) (files-end held words (By (Refused doc row column why)) caused) refl
+exactly-caused held words taken shelf_old shelf_new out_old out_new (By NoPath) caused = exactly-of s.NoPath (planned held words) (By NoPath) (files-end held words (By NoPath) caused) refl
+exactly-caused held words taken shelf_old shelf_new out_old out_new (By (ReadFault doc)) caused = reading-fails (planned held words)
+exactly-caused held words taken shelf_old shelf_new out_old out_new (By (Absent doc)) caused = exactly-of s.Absent (planned held words) (By (Absent doc)) (files-end held words (By (Absent doc)) caused) refl
+exactly-caused held words taken shelf_old shelf_new out_old out_new (By (WriteFault doc)) caused = planned-fails (planned held words) caused.2
+exactly-caused held words taken shelf_old shelf_new out_old out_new (By (TooLong doc max)) caused = exactly-of s.Limit (planned held words) (By (TooLong doc max)) (files-end held words (By (TooLong doc max)) caused.1) refl
+exactly-caused held words taken shelf_old shelf_new out_old out_new (By (Cells found)) caused = exactly-of s.Limit (planned held words) (By (Cells found)) (files-end held words (By (Cells found)) caused) refl
+exactly-caused held words taken shelf_old shelf_new out_old out_new (By Memory) caused = memory-wanting (planned held words)
+exactly-caused held words taken shelf_old shelf_new out_old out_new (NotYet w.Job) caused = exactly-of s.NotYet (planned held words) (NotYet w.Job) (by-words held words (NotYet w.Job) caused) refl
+exactly-caused held words taken shelf_old shelf_new out_old out_new (NotYet w.Cert) caused = exactly-of s.NotYet (planned held words) (NotYet w.Cert) (by-words held words (NotYet w.Cert) caused) refl
+exactly-caused held words taken shelf_old shelf_new out_old out_new (NotYet w.Rules) caused = exactly-of s.NotYet (planned held words) (NotYet w.Rules) (files-end held words (NotYet w.Rules) caused) refl
+
+-- ---- completeness
+
+-- where a season is planned and nothing fails, memory was wanting
 pub only-memory :
-    (held : Files) (words : List (List ℕ)) (folder : List ℕ) (shelf_old shelf_new out_old out_new : ℕ) (cause : Cause) (status : Status) → status ≡ status_of cause →
-    Caused (Some held) words shelf_old shelf_new out_old out_new cause → folder_of words ≡ Some folder → IsSome (season_in held folder) → (Rose shelf_old shelf_new → ⊥) → (Rose out_old out_new → ⊥) →
+    (status : Status) (given : Result Season Ending) (Shelf Out : Type 0) → Exactly status given → IsOk given → (status ≡ s.ReadFault → Shelf) → (status ≡ s.WriteFault → Out) → (Shelf → ⊥) → (Out → ⊥) →
     (status ≡ s.Ok) ⊎ (status ≡ s.Memory)
-only-memory held words folder shelf_old shelf_new out_old out_new Words status by caused asked plain calm_shelf calm_out = cc
-only-memory held words folder shelf_old shelf_new out_old out_new (ReadFault file) status by caused asked plain calm_shelf calm_out = absurd (calm_shelf caused.0)
-only-memory held words folder shelf_old shelf_new out_old out_new WriteFault status by caused asked plain calm_shelf calm_out = absurd (calm_out caused)
-only-memory held words folder shelf_old shelf_new out_old out_new NotYet status by caused asked plain calm_shelf calm_out =
-    let same : caused.0 ≡ folder = same-folder caused.0 folder (folder_of words) caused.1 asked in
-    let none : season_in held folder ≡ None = rw same at caused.2 in
-    absurd (none-is-no-season (season_in held folder) none plain)
-only-memory held words folder shelf_old shelf_new out_old out_new Memory status by caused asked plain calm_shelf calm_out = inr by
+only-memory status (Err ending) Shelf Out exact is read write calm_shelf calm_out = cc
+only-memory status (Ok season) Shelf Out (inl ok) is read write calm_shelf calm_out = inl ok
+only-memory status (Ok season) Shelf Out (inr (inl written)) is read write calm_shelf calm_out = absurd (calm_out (write written))
+only-memory status (Ok season) Shelf Out (inr (inr (inl failed))) is read write calm_shelf calm_out = absurd (calm_shelf (read failed))
+only-memory status (Ok season) Shelf Out (inr (inr (inr memory))) is read write calm_shelf calm_out = inr memory

@@ -1,22 +1,22 @@
 -- What a season's first report says.
 use Rattle.std.proofs.Common.{◌≡◌, ◌∙◌, ℕ, ℤ, List, refl}
-use Rattle.std.specs.Prelude.{Option, Some, IfSome}
+use Rattle.std.specs.Prelude.{Option, Ok, IfSome}
 use Rattle.clr_io.specs.Files.{Files}
 use Rattle.clr_rules.specs.Rules.{free_weeks, opening_path}
 use Rattle.clr_rules.proofs.Staying.{staying}
-use Rattle.clr_season.specs.Reads.{season_in}
+use Rattle.clr_words.specs.Asked.{Ask}
 use Rattle.clr_season.specs.Season.{IsSeason, Season}
 use Rattle.clr_num.specs.Rounding.{ceil, floor}
 use Rattle.clr_model.specs.PathValue.{path_low, path_high, path_total}
 use Rattle.clr_report.specs.PlanText.{plan_text}
-use Rattle.clr_top.specs.Runs.{Reports, first_report, folder_of}
+use Rattle.clr_top.specs.Runs.{Reports, asked_plan, first_report, planned}
 
 pub first-reports :
-    (files : Option Files) (words : List (List ℕ)) (folder : List ℕ) (season : Season) (Holds : List ℕ → Type 0) → folder_of words ≡ Some folder → IfSome files (λ held. season_in held folder ≡ Some season) → IsSeason season →
+    (files : Option Files) (words : List (List ℕ)) (ask : Ask) (season : Season) (Holds : List ℕ → Type 0) → asked_plan words ≡ Ok ask → IfSome files (λ held. planned held words ≡ Ok season) → IsSeason season →
     season.rules.calendar ≡ free_weeks season.rules.weeks → Holds (first_report season) → Reports files words Holds
 unfolding first_report
-first-reports files words folder season Holds asked read is plain holds = (
-  folder,
+first-reports files words ask season Holds asked read is plain holds = (
+  ask,
   season,
   opening_path season.rules,
   path_low season (opening_path season.rules),

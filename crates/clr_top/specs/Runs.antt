@@ -1,40 +1,139 @@
 -- What a run is asked, what it reports, and why it ends without a report.
-use Rattle.std.specs.Prelude.{◌≡◌, ◌⊎◌, ◌++◌, ◌∷◌, ◌==◌, ◌&&◌, [], ℕ, ℤ, ◌≤◌, Bool, false, not, IsTrue, IfSome, List, codes, length, take, Option, Some, None, if◌then◌else◌}
+use Rattle.std.specs.Prelude.{◌≡◌, ◌⊎◌, ◌++◌, ◌∷◌, [], ℕ, ℤ, ◌≤◌, ◌<◌, IsTrue, IfSome, IsOk, List, codes, length, take, Option, Some, None, Result, Ok, Err, if◌then◌else◌}
 use Rattle.std.specs.Str.{bytes_eq}
 use Rattle.std.specs.Io.KnownBytes.{Appends}
 use Rattle.clr_io.specs.Causes.{Rose}
 use Rattle.clr_io.specs.Files.{Files}
+use Rattle.clr_words.specs.Asked.{Ask, ask_of, asked_of}
+use Rattle.clr_words.specs.declared.Asked.{Asked}
+use Rattle.clr_words.specs.declared.Job.{Job}
+use Rattle.clr_words.specs.declared.Job.TheVariants as j
 use Rattle.clr_rules.specs.Rules.{obeys, opening_path}
 use Rattle.clr_season.specs.Season.{Season, IsSeason}
-use Rattle.clr_season.specs.Reads.{HeldBefore, season_in}
+use Rattle.clr_season.specs.Reads.{ReachesFile, Stop, absent, most_bytes, not_yet, refused, season_in, too_long, too_many_cells}
 use Rattle.clr_season.specs.declared.reads.File.{File}
 use Rattle.clr_season.specs.declared.reads.File.TheVariants as f
-use Rattle.clr_report.specs.declared.note.Doc.{Doc}
-use Rattle.clr_report.specs.declared.note.Doc.TheVariants as d
+use Rattle.clr_season.specs.declared.reads.SeasonError.{SeasonError}
+use Rattle.clr_season.specs.declared.reads.SeasonError.TheVariants as e
 use Rattle.clr_model.specs.PathValue.{path_low, path_high}
 use Rattle.clr_report.specs.NoteText.{note_text_of}
 use Rattle.clr_report.specs.PlanText.{plan_text}
-use Rattle.clr_report.specs.declared.note.Cause.{Cause as Told}
-use Rattle.clr_report.specs.declared.note.Cause.TheVariants as n
-use Rattle.clr_season.specs.declared.reads.SeasonError.{SeasonError}
-use Rattle.clr_season.specs.declared.reads.SeasonError.TheVariants as e
-use Rattle.clr_top.specs.declared.program.Cause.{Cause}
-use Rattle.clr_top.specs.declared.program.Cause.TheVariants.{Words, ReadFault, WriteFault, Memory, NotYet}
-use Rattle.clr_top.specs.declared.program.Status.{Status}
-use Rattle.clr_top.specs.declared.program.Status.TheVariants as s
+use Rattle.clr_report.specs.declared.note.Doc.{Doc}
+use Rattle.clr_report.specs.declared.note.Doc.TheVariants as d
+use Rattle.clr_report.specs.declared.note.Cause.{Cause}
+use Rattle.clr_report.specs.declared.note.Cause.TheVariants.{Words, Refused, NoPath, ReadFault, Absent, WriteFault, TooLong, Cells, Memory}
+use Rattle.clr_top.specs.declared.ending.Ending.{Ending}
+use Rattle.clr_top.specs.declared.ending.Ending.TheVariants.{By, NotYet}
+use Rattle.clr_top.specs.declared.ending.Word.{Word}
+use Rattle.clr_top.specs.declared.ending.Word.TheVariants as w
+use Rattle.clr_top.specs.declared.ending.Status.{Status}
+use Rattle.clr_top.specs.declared.ending.Status.TheVariants as s
+
+-- ---- how a run ends
+
+-- the number of a status, with which the program exits
+abbrev pub number_of : Status → ℕ
+number_of s.Ok = 0
+number_of s.Refused = 1
+number_of s.Words = 2
+number_of s.NoPath = 3
+number_of s.ReadFault = 4
+number_of s.WriteFault = 5
+number_of s.Limit = 6
+number_of s.Memory = 8
+number_of s.Absent = 10
+number_of s.NotYet = 11
+
+abbrev pub status_by_cause : Cause → Status
+status_by_cause Words = s.Words
+status_by_cause (Refused doc row column why) = s.Refused
+status_by_cause NoPath = s.NoPath
+status_by_cause (ReadFault doc) = s.ReadFault
+status_by_cause (Absent doc) = s.Absent
+status_by_cause (WriteFault doc) = s.WriteFault
+status_by_cause (TooLong doc max) = s.Limit
+status_by_cause (Cells found) = s.Limit
+status_by_cause Memory = s.Memory
+
+-- the status by which a run ends
+abbrev pub status_of : Ending → Status
+status_of (By cause) = status_by_cause cause
+status_of (NotYet word) = s.NotYet
+
+abbrev pub word_text : Word → List ℕ
+word_text w.Job = codes "job"
+word_text w.Cert = codes "cert"
+word_text w.Rules = codes "rules"
+
+-- the text of the note
+abbrev pub note_of : Ending → List ℕ
+note_of (By cause) = note_text_of cause
+note_of (NotYet word) = codes "not yet: " ++ word_text word ++ 10 ∷ []
 
 -- ---- what is asked
 
-abbrev pub begins_with_dash : List ℕ → Bool
-begins_with_dash [] = false
-begins_with_dash (b ∷ bytes) = b == 45
+abbrev pub is_plan : Job → List ℕ → Ask → Result Ask Ending
+is_plan j.Plan cert ask = if bytes_eq cert (codes "-") then Ok ask else Err (NotYet w.Cert)
+is_plan j.Check cert ask = Err (NotYet w.Job)
+is_plan j.Judge cert ask = Err (NotYet w.Job)
+is_plan j.Make cert ask = Err (NotYet w.Job)
 
--- the folder of which a plan is asked: there are two words, the first is `plan`, and the second does not begin with `-`
-unfoldable pub folder_of : List (List ℕ) → Option (List ℕ)
-folder_of [] = None
-folder_of (job ∷ []) = None
-folder_of (job ∷ folder ∷ []) = if bytes_eq job (codes "plan") && not (begins_with_dash folder) then Some folder else None
-folder_of (job ∷ folder ∷ more ∷ words) = None
+abbrev pub plan_asked : Option Ask → Result Ask Ending
+plan_asked None = Err (By Words)
+plan_asked (Some ask) = is_plan ask.job ask.cert ask
+
+-- the plan that the words ask, or how the run ends by the words alone
+unfoldable pub asked_plan : List (List ℕ) → Result Ask Ending
+asked_plan words = plan_asked (asked_of words)
+
+-- What was read of the words is what they ask, or how the run ends by them, unless memory was wanting.
+abbrev pub AnswersPlan : Result Asked Ending → List (List ℕ) → Type 0
+AnswersPlan (Ok asked) words = asked_plan words ≡ Ok (ask_of asked)
+AnswersPlan (Err ending) words = (ending ≡ By Memory) ⊎ (asked_plan words ≡ Err ending)
+
+-- ---- the season that is planned
+
+-- a file as the notes name it
+abbrev pub doc_of : File → Doc
+doc_of f.Rules = d.Rules
+doc_of f.Calendar = d.Calendar
+doc_of f.Ladder = d.Ladder
+doc_of f.Stock = d.Stock
+doc_of f.Demand = d.Demand
+
+-- how a run ends by what stands against a season
+abbrev pub stopped : Stop → Ending
+stopped (absent file) = By (Absent (doc_of file))
+stopped (too_long file) = By (TooLong (doc_of file) most_bytes)
+stopped (refused file refusal) = By (Refused (doc_of file) refusal.row refusal.column refusal.why)
+stopped (too_many_cells found) = By (Cells found)
+stopped not_yet = NotYet w.Rules
+
+abbrev pub unless_stopped : Result Season Stop → Result Season Ending
+unless_stopped (Ok season) = Ok season
+unless_stopped (Err stop) = Err (stopped stop)
+
+-- how a run ends by an error of its season
+abbrev pub ending_by : SeasonError → Ending
+ending_by (e.Read file) = By (ReadFault (doc_of file))
+ending_by (e.Absent file) = By (Absent (doc_of file))
+ending_by (e.TooLong file) = By (TooLong (doc_of file) most_bytes)
+ending_by (e.Refused file row column why) = By (Refused (doc_of file) row column why)
+ending_by (e.Cells found) = By (Cells found)
+ending_by e.NotYet = NotYet w.Rules
+ending_by e.Memory = By Memory
+
+-- the season of the folder that is asked, or how the run ends by its files
+abbrev pub season_asked : Files → Ask → Result Season Ending
+season_asked held ask = unless_stopped (season_in held ask.folder)
+
+abbrev pub season_for : Files → Result Ask Ending → Result Season Ending
+season_for held (Ok ask) = season_asked held ask
+season_for held (Err ending) = Err ending
+
+-- the season that is planned, or how the run ends: by the words, and then by the files
+abbrev pub planned : Files → List (List ℕ) → Result Season Ending
+planned held words = season_for held (asked_plan words)
 
 -- ---- what is reported
 
@@ -50,11 +149,11 @@ unfoldable pub first_report : Season → List ℕ
 first_report season =
     plan_text season (opening_path season.rules) (path_low season (opening_path season.rules)) (path_high season (opening_path season.rules))
 
--- The season of the asked folder has a plan, and something holds of the text of its report.
+-- A plan is asked, its season has one, and something holds of the text of its report.
 abbrev pub Reports : Option Files → List (List ℕ) → (List ℕ → Type 0) → Type 0
 Reports files words Holds =
-    (folder : List ℕ) × (season : Season) × (path : List ℕ) × (low : ℤ) × (high : ℤ)
-    × (folder_of words ≡ Some folder) × IfSome files (λ held. season_in held folder ≡ Some season) × IsSeason season
+    (ask : Ask) × (season : Season) × (path : List ℕ) × (low : ℤ) × (high : ℤ)
+    × (asked_plan words ≡ Ok ask) × IfSome files (λ held. planned held words ≡ Ok season) × IsSeason season
     × IsPlan season path low high × Holds (plan_text season path low high)
 
 -- a front of the bytes was added
@@ -63,68 +162,43 @@ AddsFront old new bytes = (n : ℕ) × (n ≤ length bytes) × Appends old new (
 
 -- ---- why a run ends without its report
 
--- a file as the notes name it
-abbrev pub doc_of : File → Doc
-doc_of f.Rules = d.Rules
-doc_of f.Ladder = d.Ladder
-doc_of f.Stock = d.Stock
-doc_of f.Demand = d.Demand
+-- A plan is asked, and the files before this one are held, not too long and not refused.
+abbrev pub ReachesDoc : Option Files → List (List ℕ) → Doc → Type 0
+ReachesDoc files words doc =
+    (ask : Ask) × (file : File) × (asked_plan words ≡ Ok ask) × (doc ≡ doc_of file) × IfSome files (λ held. ReachesFile file (season_in held ask.folder))
 
--- the cause as the notes tell it, where they do
-abbrev pub told_as : Cause → Option Told
-told_as Words = Some n.Words
-told_as (ReadFault file) = Some (n.ReadFault (doc_of file))
-told_as WriteFault = Some (n.WriteFault d.Report)
-told_as NotYet = None
-told_as Memory = Some n.Memory
+-- A plan is asked, and the run ends so by its files.
+abbrev pub ByFiles : Option Files → List (List ℕ) → Ending → Type 0
+ByFiles files words ending = (ask : Ask) × (asked_plan words ≡ Ok ask) × IfSome files (λ held. season_asked held ask ≡ Err ending)
 
-abbrev pub not_yet_text : List ℕ
-not_yet_text = codes "not yet: season" ++ 10 ∷ []
+-- Why a run ends by a cause: the files of the shelf, where they are told; the words; the bytes that were taken of the
+-- open file in the end; and the counts of faults of the shelf and of the report's sink, before and afterwards.
+abbrev pub CausedBy : Option Files → List (List ℕ) → ℕ → ℕ → ℕ → ℕ → ℕ → Cause → Type 0
+CausedBy files words taken shelf_old shelf_new out_old out_new Words = asked_of words ≡ None
+CausedBy files words taken shelf_old shelf_new out_old out_new (Refused doc row column why) = ByFiles files words (By (Refused doc row column why))
+CausedBy files words taken shelf_old shelf_new out_old out_new NoPath = ByFiles files words (By NoPath)
+CausedBy files words taken shelf_old shelf_new out_old out_new (ReadFault doc) = Rose shelf_old shelf_new × ReachesDoc files words doc
+CausedBy files words taken shelf_old shelf_new out_old out_new (Absent doc) = ByFiles files words (By (Absent doc))
+CausedBy files words taken shelf_old shelf_new out_old out_new (WriteFault doc) = (doc ≡ d.Report) × Rose out_old out_new × IfSome files (λ held. IsOk (planned held words))
+CausedBy files words taken shelf_old shelf_new out_old out_new (TooLong doc max) = (max < taken) × ByFiles files words (By (TooLong doc max))
+CausedBy files words taken shelf_old shelf_new out_old out_new (Cells found) = ByFiles files words (By (Cells found))
+CausedBy files words taken shelf_old shelf_new out_old out_new Memory = Unit {0}
 
-abbrev pub text_or_not_yet : Option Told → List ℕ
-text_or_not_yet (Some cause) = note_text_of cause
-text_or_not_yet None = not_yet_text
+abbrev pub NotYetBy : Option Files → List (List ℕ) → Word → Type 0
+NotYetBy files words w.Job = asked_plan words ≡ Err (NotYet w.Job)
+NotYetBy files words w.Cert = asked_plan words ≡ Err (NotYet w.Cert)
+NotYetBy files words w.Rules = ByFiles files words (NotYet w.Rules)
 
--- the text of the note
-abbrev pub note_of : Cause → List ℕ
-note_of cause = text_or_not_yet (told_as cause)
+abbrev pub Caused : Option Files → List (List ℕ) → ℕ → ℕ → ℕ → ℕ → ℕ → Ending → Type 0
+Caused files words taken shelf_old shelf_new out_old out_new (By cause) = CausedBy files words taken shelf_old shelf_new out_old out_new cause
+Caused files words taken shelf_old shelf_new out_old out_new (NotYet word) = NotYetBy files words word
 
--- the cause that an error of the season is
-abbrev pub season_cause : SeasonError → Cause
-season_cause (e.Read file) = ReadFault file
-season_cause e.NotYet = NotYet
-season_cause e.Memory = Memory
+-- The status is exactly what the words and the files say: where a season is planned, all else is a fault or want of
+-- memory; and where the run ends by the words or the files, its status is that, or a fault of the shelf or want of memory.
+abbrev pub Exactly : Status → Result Season Ending → Type 0
+Exactly status (Ok season) = (status ≡ s.Ok) ⊎ ((status ≡ s.WriteFault) ⊎ ((status ≡ s.ReadFault) ⊎ (status ≡ s.Memory)))
+Exactly status (Err ending) = (status ≡ status_of ending) ⊎ ((status ≡ s.ReadFault) ⊎ (status ≡ s.Memory))
 
--- the number of a status, with which the program exits
-abbrev pub number_of : Status → ℕ
-number_of s.Ok = 0
-number_of s.Words = 2
-number_of s.ReadFault = 4
-number_of s.WriteFault = 5
-number_of s.Memory = 8
-number_of s.NotYet = 11
-
--- the status
-abbrev pub status_of : Cause → Status
-status_of Words = s.Words
-status_of (ReadFault file) = s.ReadFault
-status_of WriteFault = s.WriteFault
-status_of NotYet = s.NotYet
-status_of Memory = s.Memory
-
--- something holds of the folder that is asked and the files of the shelf, where they are told
-abbrev pub OfFolder : Option Files → List (List ℕ) → (Files → List ℕ → Type 0) → Type 0
-OfFolder files words Holds = (folder : List ℕ) × (folder_of words ≡ Some folder) × IfSome files (λ held. Holds held folder)
-
--- What has happened where a run ends by a cause. The counts are those of the shelf and of the report's sink, before and afterwards.
-abbrev pub Caused : Option Files → List (List ℕ) → ℕ → ℕ → ℕ → ℕ → Cause → Type 0
-Caused files words shelf_old shelf_new out_old out_new Words = folder_of words ≡ None
-Caused files words shelf_old shelf_new out_old out_new (ReadFault file) =
-    Rose shelf_old shelf_new × OfFolder files words (λ held folder. HeldBefore held folder file)
-Caused files words shelf_old shelf_new out_old out_new WriteFault = Rose out_old out_new
-Caused files words shelf_old shelf_new out_old out_new NotYet = OfFolder files words (λ held folder. season_in held folder ≡ None)
-Caused files words shelf_old shelf_new out_old out_new Memory = Unit {0}
-
--- The note of the cause was added, or a front of it where the note's faults rose.
-abbrev pub Notes : Option (List ℕ) → Option (List ℕ) → ℕ → ℕ → Cause → Type 0
-Notes old new faults_old faults_new cause = Appends old new (note_of cause) ⊎ (Rose faults_old faults_new × AddsFront old new (note_of cause))
+-- The note of how the run ends was added, or a front of it where the note's faults rose.
+abbrev pub Notes : Option (List ℕ) → Option (List ℕ) → ℕ → ℕ → Ending → Type 0
+Notes old new faults_old faults_new ending = Appends old new (note_of ending) ⊎ (Rose faults_old faults_new × AddsFront old new (note_of ending))

@@ -3,8 +3,15 @@
 //! `main` makes the real shelf, desk and sinks, and exits with the number of the status that `run` gives.
 #![tactic(auto)]
 
+mod ending;
 mod plan;
 mod program;
+#[cfg(test)]
+mod cases;
+#[cfg(test)]
+mod faults;
+#[cfg(test)]
+mod refusals;
 #[cfg(test)]
 mod seasons;
 

@@ -1,142 +1,97 @@
 //! The program's one call: it does what the words ask, over any shelf, desk and sinks.
 
-ghost use Rattle.std.specs.Prelude.{◌≡◌, ◌≢◌, ◌⊎◌, ◌↔◌, ◌≤◌, ℕ, List, IfOk, IfSome, IsErrOf, OnOk, IsSome, Some, None, map, string_bytes, option_map};
+ghost use Rattle.std.specs.Prelude.{◌≡◌, ◌≢◌, ◌⊎◌, ◌≤◌, ◌<◌, ℕ, List, IfOk, IfSome, IsErrOf, OnOk, IsOk, Ok, Some, None, map, string_bytes};
 ghost use Rattle.std.specs.Io.KnownBytes.{Appends};
 ghost use Rattle.clr_io.specs.Causes.{Rose};
 ghost use Rattle.clr_io.specs.Files.{Files};
-ghost use Rattle.clr_season.specs.Reads.{season_in};
-ghost use Rattle.clr_season.specs.Season.{Season};
-ghost use Rattle.clr_top.specs.Runs.{AddsFront, Caused, Notes, OfFolder, Reports, doc_of, folder_of, not_yet_text, note_of, number_of, season_cause, status_of, told_as};
-ghost use Rattle.clr_top.specs.declared.program.Cause.{Cause};
+ghost use Rattle.clr_rules.specs.Rules.{free_weeks};
+ghost use Rattle.clr_report.specs.declared.note.Cause.{Cause};
+ghost use Rattle.clr_report.specs.declared.note.Doc.{Doc};
+ghost use Rattle.clr_season.specs.Season.{IsSeason};
+ghost use Rattle.clr_words.specs.Asked.{Ask, ask_of, asked_of};
+ghost use Rattle.clr_top.specs.declared.ending.Ending.{Ending};
+ghost use Rattle.clr_top.specs.Runs.{AddsFront, AnswersPlan, Caused, Exactly, Notes, Reports, asked_plan, ending_by, planned, season_asked, status_of};
 
+use crate::ending::{Ending, Status, Word, doc, status, write_note};
 use crate::plan::first_plan;
 use clr_io::{Desk, Shelf, Sink, write_whole};
-use clr_report::{Doc, note_text};
-use clr_season::{File, SeasonError, read_season};
+use clr_report::{Cause, Doc};
+use clr_season::{Season, SeasonError, read_season};
+use clr_words::{Asked, Job, WordsError, read_words};
 use std::alloc::Global;
 
-/// How a run ended.
-#[derive(Clone, Copy, Debug, PartialEq, Eq)]
-pub enum Status {
-    /// The whole report was written.
-    Ok,
-    /// The words ask nothing that the program does.
-    Words,
-    /// The shelf failed while a file was opened or read.
-    ReadFault,
-    /// The report's sink failed.
-    WriteFault,
-    /// Memory was wanting.
-    Memory,
-    /// A file isn't held or is too long, or the season is one that the program can't plan yet.
-    NotYet,
-}
-
-impl Status {
-    /// The exit status of the program.
-    pub fn number(&self) -> u8
-        ensures { result ≡ number_of self.now }
-    {
-        match self {
-            Status::Ok => 0,
-            Status::Words => 2,
-            Status::ReadFault => 4,
-            Status::WriteFault => 5,
-            Status::Memory => 8,
-            Status::NotYet => 11,
-        }
-    }
-}
-
-// Why a run ends without its whole report.
-#[derive(Clone, Copy, Debug, PartialEq, Eq)]
-pub enum Cause {
-    Words,
-    ReadFault { file: File },
-    WriteFault,
-    NotYet,
-    Memory,
-}
-
-fn status_by(cause: Cause) -> Status
-    ensures { result ≡ status_of cause }
+fn by(cause: Cause) -> Ending
+    ensures { result ≡ Ending.By cause }
 {
-    match cause {
-        Cause::Words => Status::Words,
-        Cause::ReadFault { file: _ } => Status::ReadFault,
-        Cause::WriteFault => Status::WriteFault,
-        Cause::NotYet => Status::NotYet,
-        Cause::Memory => Status::Memory,
-    }
+    Ending::By { cause }
 }
 
-fn doc(file: File) -> Doc
-    ensures { result ≡ doc_of file }
+// What the words ask, where they ask a plan without a certificate.
+#[tactic(auto, unfolding(crate::specs::Runs::asked_plan))]
+fn read_plan_words(alloc: Global, words: &[String]) -> Result<Asked, Ending>
+    ensures { AnswersPlan result (map string_bytes words.now) }
 {
-    match file {
-        File::Rules => Doc::Rules,
-        File::Ladder => Doc::Ladder,
-        File::Stock => Doc::Stock,
-        File::Demand => Doc::Demand,
-    }
-}
-
-// The cause as the notes tell it, and none for what has a note of this crate's own.
-fn told(cause: Cause) -> Option<clr_report::Cause>
-    ensures { result ≡ told_as cause }
-{
-    match cause {
-        Cause::Words => Some(clr_report::Cause::Words),
-        Cause::ReadFault { file } => Some(clr_report::Cause::ReadFault { doc: doc(file) }),
-        Cause::WriteFault => Some(clr_report::Cause::WriteFault { doc: Doc::Report }),
-        Cause::NotYet => None,
-        Cause::Memory => Some(clr_report::Cause::Memory),
-    }
-}
-
-// The note of a season that isn't planned yet.
-fn not_yet_note() -> &'static [u8]
-    ensures { result.now ≡ not_yet_text }
-{
-    b"not yet: season\n"
-}
-
-// Writes the note of a cause, as far as the sink takes it.
-fn write_note<N: Sink>(note: &mut N, cause: Cause)
-    ensures notes { Notes (N.written note.old) (N.written note.new) (N.faults note.old) (N.faults note.new) cause }
-    ensures around { N.around note.new ≡ N.around note.old }
-{
-    let mut text = [0; 256];
-    let written = match told(cause) {
-        Some(cause) => {
-            let count = note_text(&cause, &mut text);
-            write_whole(note, &text[..count])
-        }
-        None => write_whole(note, not_yet_note()),
+    let asked = match read_words(alloc, words) {
+        Ok(asked) => asked,
+        Err(WordsError::Faulty) => return Err(by(Cause::Words)),
+        Err(WordsError::Memory) => return Err(by(Cause::Memory)),
     };
-    let _ = written;
-}
-
-// The folder that the words name, where they ask for its plan.
-#[tactic(auto, unfolding(crate::specs::Runs::folder_of))]
-fn asked_folder(words: &[String]) -> Option<&str>
-    ensures { option_map (λ s. s.now) result ≡ folder_of (map string_bytes words.now) }
-{
-    match words {
-        [job, folder] if job.as_str() == "plan" && !folder.as_str().starts_with('-') => Some(
-            folder.as_str(),
-        ),
-        _ => None,
+    match asked.job {
+        Job::Plan => {}
+        _ => return Err(Ending::NotYet { word: Word::Job }),
     }
+    if asked.cert.as_str() != "-" {
+        return Err(Ending::NotYet { word: Word::Cert });
+    }
+    Ok(asked)
 }
 
-fn cause_of(error: SeasonError) -> Cause
-    ensures { result ≡ season_cause error }
+// How a run ends by an error of its season.
+fn unread(error: SeasonError) -> Ending
+    ensures { result ≡ ending_by error }
 {
     match error {
-        SeasonError::Read { file } => Cause::ReadFault { file },
-        SeasonError::NotYet => Cause::NotYet,
-        SeasonError::Memory => Cause::Memory,
+        SeasonError::Read { file } => by(Cause::ReadFault { doc: doc(file) }),
+        SeasonError::Absent { file } => by(Cause::Absent { doc: doc(file) }),
+        SeasonError::TooLong { file } => by(Cause::TooLong {
+            doc: doc(file),
+            max: 33_554_432,
+        }),
+        SeasonError::Refused {
+            file,
+            row,
+            column,
+            why,
+        } => by(Cause::Refused {
+            doc: doc(file),
+            row,
+            column,
+            why,
+        }),
+        SeasonError::Cells { found } => by(Cause::Cells { found }),
+        SeasonError::NotYet => Ending::NotYet { word: Word::Rules },
+        SeasonError::Memory => by(Cause::Memory),
+    }
+}
+
+// The season that the words ask to plan.
+fn read_asked<H: Shelf>(
+    alloc: Global,
+    words: &[String],
+    shelf: &mut H,
+) -> Result<Season, Ending>
+    ensures season { IfOk result (λ s. (ask : Ask) × (asked_plan (map string_bytes words.now) ≡ Ok ask) × IfSome (H.files shelf.old) (λ held. planned held (map string_bytes words.now) ≡ Ok s)) }
+    ensures plain { IfOk result (λ s. s.rules.calendar ≡ free_weeks s.rules.weeks) }
+    ensures facts { IfOk result (λ s. IsSeason s) }
+    ensures caused { (ending : Ending) → IsErrOf result ending → (out_old out_new : ℕ) → Caused (H.files shelf.old) (map string_bytes words.now) (H.taken shelf.new) (H.faults shelf.old) (H.faults shelf.new) out_old out_new ending }
+    ensures write { IsErrOf result (Ending.By (Cause.WriteFault Doc.Report)) → ⊥ }
+    ensures files { H.files shelf.new ≡ H.files shelf.old }
+    ensures later { H.faults shelf.old ≤ H.faults shelf.new }
+{
+    let asked = read_plan_words(alloc, words)?;
+    match read_season(alloc, shelf, asked.folder.as_str()) {
+        Ok(season) => Ok(season),
+        Err(error) => Err(unread(error)),
     }
 }
 
@@ -146,38 +101,36 @@ fn work<H: Shelf, O: Sink>(
     words: &[String],
     shelf: &mut H,
     out: &mut O,
-) -> Result<(), Cause>
+) -> Result<(), Ending>
     ensures ok { OnOk result (Reports (H.files shelf.old) (map string_bytes words.now) (λ text. Appends (O.written out.old) (O.written out.new) text)) }
-    ensures words { IsErrOf result Cause.Words ↔ (folder_of (map string_bytes words.now) ≡ None) }
-    ensures caused { (cause : Cause) → IsErrOf result cause → Caused (H.files shelf.old) (map string_bytes words.now) (H.faults shelf.old) (H.faults shelf.new) (O.faults out.old) (O.faults out.new) cause }
-    ensures front { IsErrOf result Cause.WriteFault → Reports (H.files shelf.old) (map string_bytes words.now) (λ text. AddsFront (O.written out.old) (O.written out.new) text) }
-    ensures quiet { (cause : Cause) → IsErrOf result cause → cause ≢ Cause.WriteFault → O.written out.new ≡ O.written out.old }
+    ensures caused { (ending : Ending) → IsErrOf result ending → Caused (H.files shelf.old) (map string_bytes words.now) (H.taken shelf.new) (H.faults shelf.old) (H.faults shelf.new) (O.faults out.old) (O.faults out.new) ending }
+    ensures front { IsErrOf result (Ending.By (Cause.WriteFault Doc.Report)) → Reports (H.files shelf.old) (map string_bytes words.now) (λ text. AddsFront (O.written out.old) (O.written out.new) text) }
+    ensures quiet { (ending : Ending) → IsErrOf result ending → ending ≢ Ending.By (Cause.WriteFault Doc.Report) → O.written out.new ≡ O.written out.old }
     ensures around { O.around out.new ≡ O.around out.old }
     ensures files { H.files shelf.new ≡ H.files shelf.old }
     ensures later { H.faults shelf.old ≤ H.faults shelf.new }
 {
-    let Some(folder) = asked_folder(words) else {
-        return Err(Cause::Words);
-    };
-    let season = match read_season(alloc, shelf, folder) {
+    let season = match read_asked(alloc, words, shelf) {
         Ok(season) => season,
-        Err(error) => return Err(cause_of(error)),
+        Err(ending) => return Err(ending),
     };
     let Ok(text) = first_plan(alloc, &season) else {
-        return Err(Cause::Memory);
+        return Err(by(Cause::Memory));
     };
     match write_whole(out, &text) {
         Ok(()) => Ok(()),
-        Err(_) => Err(Cause::WriteFault),
+        Err(_) => Err(by(Cause::WriteFault { doc: Doc::Report })),
     }
 }
 
-/// Does what the words ask; they are the words behind the program's name. `plan FOLDER` reads the season of the
-/// folder's files from the shelf and writes the first lines of the plan report of the path that stays on the first
-/// rung. The desk isn't used.
+/// Does what the words ask; they are the words behind the program's name, read by `clap` as the command with the
+/// required JOB and FOLDER and the options `--steps`, `--step`, `--nodes`, `--cert` and `--seed`. `plan FOLDER` reads the
+/// season of the folder's files from the shelf and writes the first lines of the plan report of the path that stays on
+/// the first rung. The numbers of the options have no effect yet, and the desk isn't used.
 ///
-/// The order of the answers is: `Words`; file by file (rules.json, ladder.csv, stock.csv, demand.csv) `ReadFault`, then
-/// `NotYet` where the file isn't held or is too long; `NotYet` where the season isn't plain; `WriteFault`. `Memory` may
+/// The order of the answers is: `Words`; `NotYet` of another job, and then of a certificate; file by file (rules.json,
+/// ladder.csv, stock.csv, demand.csv) `ReadFault`, `Absent`, `Limit` where the file is too long, and `Refused`; behind
+/// rules.json `NotYet` of other rules; behind all files `Limit` where the cells are too many; `WriteFault`. `Memory` may
 /// come anywhere before the first byte of the report is written. For each status but `Ok` one note goes to `note`.
 pub fn run<H: Shelf, D: Desk, O: Sink, N: Sink>(
     alloc: Global,
@@ -192,14 +145,15 @@ pub fn run<H: Shelf, D: Desk, O: Sink, N: Sink>(
     ensures silent { result ≡ Status.Ok → N.written note.new ≡ N.written note.old }
 
     // Each other status has its cause, and the note of it was written.
-    ensures words { result ≡ Status.Words ↔ (folder_of (map string_bytes words.now) ≡ None) }
-    ensures caused { result ≢ Status.Ok → (cause : Cause) × (result ≡ status_of cause)
-        × Caused (H.files shelf.old) (map string_bytes words.now) (H.faults shelf.old) (H.faults shelf.new) (O.faults out.old) (O.faults out.new) cause
-        × Notes (N.written note.old) (N.written note.new) (N.faults note.old) (N.faults note.new) cause }
-
-    ensures not_yet { result ≡ Status.NotYet → OfFolder (H.files shelf.old) (map string_bytes words.now) (λ held folder. season_in held folder ≡ None) }
+    ensures caused { result ≢ Status.Ok → (ending : Ending) × (result ≡ status_of ending)
+        × Caused (H.files shelf.old) (map string_bytes words.now) (H.taken shelf.new) (H.faults shelf.old) (H.faults shelf.new) (O.faults out.old) (O.faults out.new) ending
+        × Notes (N.written note.old) (N.written note.new) (N.faults note.old) (N.faults note.new) ending }
     ensures read { result ≡ Status.ReadFault → Rose (H.faults shelf.old) (H.faults shelf.new) }
     ensures write { result ≡ Status.WriteFault → Rose (O.faults out.old) (O.faults out.new) }
+
+    // Where the shelf tells its files, each status that isn't a fault or want of memory comes exactly where the words and the files say so.
+    ensures words { result ≡ Status.Words → asked_of (map string_bytes words.now) ≡ None }
+    ensures exact { IfSome (H.files shelf.old) (λ held. Exactly result (planned held (map string_bytes words.now))) }
 
     // What stands afterwards.
     ensures front { result ≡ Status.WriteFault → Reports (H.files shelf.old) (map string_bytes words.now) (λ text. AddsFront (O.written out.old) (O.written out.new) text) }
@@ -210,16 +164,16 @@ pub fn run<H: Shelf, D: Desk, O: Sink, N: Sink>(
     ensures files { H.files shelf.new ≡ H.files shelf.old }
     ensures later { H.faults shelf.old ≤ H.faults shelf.new }
 
-    // Where the season is plain and nothing fails, only memory can be wanting.
-    ensures complete { (files : Files) (folder : List ℕ) → H.files shelf.old ≡ Some files → folder_of (map string_bytes words.now) ≡ Some folder
-        → IsSome (season_in files folder) → (Rose (H.faults shelf.old) (H.faults shelf.new) → ⊥) → (Rose (O.faults out.old) (O.faults out.new) → ⊥)
+    // Where a season is planned and nothing fails, only memory can be wanting.
+    ensures complete { (held : Files) → H.files shelf.old ≡ Some held → IsOk (planned held (map string_bytes words.now))
+        → (Rose (H.faults shelf.old) (H.faults shelf.new) → ⊥) → (Rose (O.faults out.old) (O.faults out.new) → ⊥)
         → (result ≡ Status.Ok) ⊎ (result ≡ Status.Memory) }
 {
     match work(alloc, words, shelf, out) {
         Ok(()) => Status::Ok,
-        Err(cause) => {
-            write_note(note, cause);
-            status_by(cause)
+        Err(ending) => {
+            write_note(note, ending);
+            status(ending)
         }
     }
 }

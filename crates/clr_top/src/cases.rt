@@ -1,0 +1,125 @@
+// What the worked cases share: the files of a season, and what a run answers to them.
+use crate::ending::Status;
+use crate::program::run;
+use clr_io::{MemoryDesk, MemoryShelf, MemorySink, Shelf};
+use std::alloc::{AllocError, Global};
+
+// The files of a season.
+#[derive(Clone, Copy)]
+pub(crate) struct Files<'a> {
+    pub rules: &'a [u8],
+    pub ladder: &'a [u8],
+    pub stock: &'a [u8],
+    pub demand: &'a [u8],
+}
+
+pub(crate) const SMALLEST: Files<'static> = Files {
+    rules: b"{\"weeks\":1,\"base\":4}",
+    ladder: b"rung,price\n1,10.00\n",
+    stock: b"store,units,salvage\na,1,2.00\n",
+    demand: b"store,week,rung,units,weight\na,1,1,0,1\na,1,1,1,3\n",
+};
+
+pub(crate) const SMALLEST_REPORT: &[u8] =
+    b"season 1 stores 1 weeks 1 rungs base 4\npath 1\nprices 10.00\nrevenue 8.00000000 8.00000000\n";
+
+// One store, two weeks, two rungs: on the first rung nothing or one unit is asked for in each week.
+pub(crate) const TWO_WEEKS: Files<'static> = Files {
+    rules: b"{\"weeks\":2,\"base\":2}",
+    ladder: b"rung,price\n1,10.00\n2,4.00\n",
+    stock: b"store,units,salvage\na,2,0\n",
+    demand: b"store,week,rung,units,weight\na,1,1,0,1\na,1,1,1,1\na,2,1,0,1\na,2,1,1,1\na,1,2,0,2\na,2,2,2,2\n",
+};
+
+// A list of numbers.
+pub(crate) fn list_of(alloc: Global, numbers: &[u64]) -> Result<Vec<u64>, AllocError> {
+    let mut list = Vec::new(alloc);
+    for number in numbers {
+        list.push(*number)?;
+    }
+    Ok(list)
+}
+
+pub(crate) fn words_of(alloc: Global, words: &[&str]) -> Result<Vec<String>, AllocError> {
+    let mut all = Vec::new(alloc);
+    for word in words {
+        all.push(String::from_str(alloc, *word)?)?;
+    }
+    Ok(all)
+}
+
+// The files that are held: each but the one that is left out, by its number from 1.
+pub(crate) fn held(
+    alloc: Global,
+    files: Files<'_>,
+    left_out: usize,
+) -> Result<Vec<(String, Vec<u8>)>, AllocError> {
+    let mut held = Vec::new(alloc);
+    let all: [(&str, &[u8]); 4] = [
+        ("f/rules.json", files.rules),
+        ("f/ladder.csv", files.ladder),
+        ("f/stock.csv", files.stock),
+        ("f/demand.csv", files.demand),
+    ];
+    for (index, (name, bytes)) in all.iter().enumerate() {
+        if index + 1 != left_out {
+            held.push((String::from_str(alloc, *name)?, bytes.to_vec(alloc)?))?;
+        }
+    }
+    Ok(held)
+}
+
+// What a run answered, and what stands on its sinks.
+#[derive(Drop)]
+pub(crate) struct Answer {
+    pub status: Status,
+    pub out: MemorySink,
+    pub note: MemorySink,
+    pub made: usize,
+}
+
+impl Answer {
+    // The report stands whole, and no note.
+    pub(crate) fn reports(&self, report: &[u8]) -> bool {
+        self.status == Status::Ok
+            && self.out.bytes() == report
+            && self.note.bytes().is_empty()
+            && self.made == 0
+    }
+
+    // The note stands, and nothing else.
+    pub(crate) fn notes(&self, status: Status, note: &str) -> bool {
+        let line = self.note.bytes();
+        self.status == status
+            && self.out.bytes().is_empty()
+            && line.ends_with(b"\n")
+            && line.starts_with(note.as_bytes())
+            && line.len() == note.len().saturating_add(1)
+            && self.made == 0
+    }
+}
+
+pub(crate) fn run_on<H: Shelf>(
+    alloc: Global,
+    words: &[&str],
+    shelf: &mut H,
+    fail: &[u64],
+) -> Result<Answer, AllocError> {
+    let words = words_of(alloc, words)?;
+    let mut desk = MemoryDesk::new(alloc, 1, 10, 1, Vec::new(alloc))?;
+    let mut out = MemorySink::new(alloc, 4096, 16, list_of(alloc, fail)?)?;
+    let mut note = MemorySink::new(alloc, 256, 7, Vec::new(alloc))?;
+    let status = run(alloc, &words, shelf, &mut desk, &mut out, &mut note);
+    Ok(Answer {
+        status,
+        out,
+        note,
+        made: desk.count(),
+    })
+}
+
+// The plan of files in memory.
+pub(crate) fn planned(alloc: Global, files: Files<'_>) -> Result<Answer, AllocError> {
+    let mut shelf = MemoryShelf::new(held(alloc, files, 0)?, 16, Vec::new(alloc));
+    run_on(alloc, &["plan", "f"], &mut shelf, &[])
+}

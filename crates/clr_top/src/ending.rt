@@ -1,0 +1,142 @@
+// How a run ends, and the note of it.
+ghost use Rattle.std.specs.Prelude.{◌≡◌};
+ghost use Rattle.clr_top.specs.Runs.{Notes, doc_of, number_of, note_of, status_by_cause, status_of, word_text};
+
+use clr_io::{Failed, Sink, write_whole};
+use clr_report::{Cause, Doc, note_text};
+use clr_season::File;
+
+/// How a run ended.
+#[derive(Clone, Copy, Debug, PartialEq, Eq)]
+pub enum Status {
+    /// The whole report was written.
+    Ok,
+    /// The season's files have a first refusal of content.
+    Refused,
+    /// The words ask nothing that the program does.
+    Words,
+    /// No path obeys.
+    NoPath,
+    /// The shelf failed while a file was opened or read.
+    ReadFault,
+    /// The report's sink failed.
+    WriteFault,
+    /// A file is longer than its limit, or the season's tables have too many cells.
+    Limit,
+    /// Memory was wanting.
+    Memory,
+    /// A file that is needed isn't held.
+    Absent,
+    /// What is asked can't be done yet.
+    NotYet,
+}
+
+impl Status {
+    /// The exit status of the program.
+    pub fn number(&self) -> u8
+        ensures { result ≡ number_of self.now }
+    {
+        match self {
+            Status::Ok => 0,
+            Status::Refused => 1,
+            Status::Words => 2,
+            Status::NoPath => 3,
+            Status::ReadFault => 4,
+            Status::WriteFault => 5,
+            Status::Limit => 6,
+            Status::Memory => 8,
+            Status::Absent => 10,
+            Status::NotYet => 11,
+        }
+    }
+}
+
+/// What can't be done yet.
+#[derive(Clone, Copy)]
+pub enum Word {
+    /// A job other than a plan.
+    Job,
+    /// A certificate.
+    Cert,
+    /// Rules other than those that stand where their fields are absent.
+    Rules,
+}
+
+/// Why a run ends without its whole report.
+#[derive(Clone, Copy)]
+pub enum Ending {
+    /// By a cause that the notes tell.
+    By { cause: Cause },
+    /// By what can't be done yet.
+    NotYet { word: Word },
+}
+
+fn status_by(cause: Cause) -> Status
+    ensures { result ≡ status_by_cause cause }
+{
+    match cause {
+        Cause::Words => Status::Words,
+        Cause::Refused { .. } => Status::Refused,
+        Cause::NoPath => Status::NoPath,
+        Cause::ReadFault { .. } => Status::ReadFault,
+        Cause::Absent { .. } => Status::Absent,
+        Cause::WriteFault { .. } => Status::WriteFault,
+        Cause::TooLong { .. } => Status::Limit,
+        Cause::Cells { .. } => Status::Limit,
+        Cause::Memory => Status::Memory,
+    }
+}
+
+/// The status by which a run ends.
+pub(crate) fn status(ending: Ending) -> Status
+    ensures { result ≡ status_of ending }
+{
+    match ending {
+        Ending::By { cause } => status_by(cause),
+        Ending::NotYet { .. } => Status::NotYet,
+    }
+}
+
+/// A file as the notes name it.
+pub(crate) fn doc(file: File) -> Doc
+    ensures { result ≡ doc_of file }
+{
+    match file {
+        File::Rules => Doc::Rules,
+        File::Calendar => Doc::Calendar,
+        File::Ladder => Doc::Ladder,
+        File::Stock => Doc::Stock,
+        File::Demand => Doc::Demand,
+    }
+}
+
+fn not_yet_text(word: Word) -> &'static str
+    ensures { result.now ≡ note_of (Ending.NotYet word) }
+{
+    match word {
+        Word::Job => "not yet: job\n",
+        Word::Cert => "not yet: cert\n",
+        Word::Rules => "not yet: rules\n",
+    }
+}
+
+fn write_told<N: Sink>(note: &mut N, cause: Cause) -> Result<(), Failed>
+    ensures notes { Notes (N.written note.old) (N.written note.new) (N.faults note.old) (N.faults note.new) (Ending.By cause) }
+    ensures around { N.around note.new ≡ N.around note.old }
+{
+    let mut text = [0; 256];
+    let count = note_text(&cause, &mut text);
+    write_whole(note, &text[..count])
+}
+
+/// Writes the note of how a run ends, as far as the sink takes it.
+pub(crate) fn write_note<N: Sink>(note: &mut N, ending: Ending)
+    ensures notes { Notes (N.written note.old) (N.written note.new) (N.faults note.old) (N.faults note.new) ending }
+    ensures around { N.around note.new ≡ N.around note.old }
+{
+    let written = match ending {
+        Ending::By { cause } => write_told(note, cause),
+        Ending::NotYet { word } => write_whole(note, not_yet_text(word).as_bytes()),
+    };
+    let _ = written;
+}

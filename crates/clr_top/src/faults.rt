@@ -1,0 +1,248 @@
+// Limits, faults, absent files and words: how `run` ends without a report.
+ghost use Rattle.std.specs.Prelude.{◌≤◌};
+
+use crate::cases::{
+    Answer, Files, SMALLEST, SMALLEST_REPORT, held, list_of, planned, run_on, words_of,
+};
+use crate::ending::Status;
+use crate::program::run;
+use clr_io::{MemoryDesk, MemoryShelf, MemorySink};
+use std::alloc::{AllocError, Global};
+use std::test::Fail;
+
+const USAGE: &str =
+    "usage: clearance plan|check|judge|make FOLDER [--steps N] [--step N] [--nodes N] [--cert NAME] [--seed N]";
+
+// The plan of files without one of them, by its number from 1.
+fn without(alloc: Global, files: Files<'_>, left_out: usize) -> Result<Answer, AllocError> {
+    let mut shelf = MemoryShelf::new(held(alloc, files, left_out)?, 16, Vec::new(alloc));
+    run_on(alloc, &["plan", "f"], &mut shelf, &[])
+}
+
+#[test]
+fn absent_files_are_told(rt: HostRuntime) -> Result<(), Fail> {
+    let alloc = rt.alloc();
+    let notes = [
+        "absent: rules.json",
+        "absent: ladder.csv",
+        "absent: stock.csv",
+        "absent: demand.csv",
+    ];
+    for (index, note) in notes.iter().enumerate() {
+        let answer = without(alloc, SMALLEST, index + 1)?;
+        assert!(rt; answer.notes(Status::Absent, note), "{note}");
+    }
+    // What stands before an absent file is judged first, and what stands behind it is not.
+    let broken = Files {
+        ladder: b"",
+        demand: b"",
+        ..SMALLEST
+    };
+    let before = without(alloc, broken, 3)?;
+    assert!(rt; before.notes(Status::Refused, "refused: ladder.csv header"));
+    let behind = without(alloc, broken, 1)?;
+    assert!(rt; behind.notes(Status::Absent, "absent: rules.json"));
+    Ok(())
+}
+
+#[test]
+fn other_rules_are_not_planned_yet(rt: HostRuntime) -> Result<(), Fail> {
+    let alloc = rt.alloc();
+    let others: [&[u8]; 4] = [
+        b"{\"weeks\":1,\"base\":4,\"markdowns\":11}",
+        b"{\"weeks\":1,\"base\":4,\"spacing\":2}",
+        b"{\"weeks\":1,\"base\":4,\"first_cut\":99}",
+        b"{\"weeks\":1,\"base\":4,\"calendar\":true}",
+    ];
+    for (index, rules) in others.iter().enumerate() {
+        // The rules come before the other files.
+        let answer = without(alloc, Files { rules, ..SMALLEST }, 2)?;
+        assert!(rt; answer.notes(Status::NotYet, "not yet: rules"), "{index}");
+    }
+    Ok(())
+}
+
+// A text of one byte, so many times.
+fn repeated(alloc: Global, byte: u8, count: usize) -> Result<Vec<u8>, AllocError> {
+    vec![in alloc; byte; count]
+}
+
+// Rules with an array nested so deep.
+fn nested(alloc: Global, depth: usize) -> Result<Vec<u8>, AllocError> {
+    let mut text = b"{\"weeks\":1,\"base\":4,\"x\":".to_vec(alloc)?;
+    text.extend_from_slice(&repeated(alloc, b'[', depth)?)?;
+    text.extend_from_slice(&repeated(alloc, b']', depth)?)?;
+    text.extend_from_slice(b"}")?;
+    Ok(text)
+}
+
+// The smallest season's demand with line feeds behind it, so many bytes in all.
+fn padded(alloc: Global, count: usize) -> Result<Vec<u8>, AllocError>
+    requires { 49 ≤ count }
+{
+    let mut text = SMALLEST.demand.to_vec(alloc)?;
+    text.extend_from_slice(&repeated(alloc, b'\n', count - 49)?)?;
+    Ok(text)
+}
+
+#[test]
+fn long_and_deep_files_are_told(rt: HostRuntime) -> Result<(), Fail> {
+    let alloc = rt.alloc();
+    let deep = nested(alloc, 128)?;
+    let answer = planned(
+        alloc,
+        Files {
+            rules: &deep,
+            ..SMALLEST
+        },
+    )?;
+    assert!(rt; answer.notes(Status::Refused, "refused: rules.json json"));
+    for (count, fits) in [(33_554_432, true), (33_554_433, false)] {
+        let demand = padded(alloc, count)?;
+        let files = Files {
+            demand: &demand,
+            ..SMALLEST
+        };
+        let mut shelf = MemoryShelf::new(held(alloc, files, 0)?, 1_000_000, Vec::new(alloc));
+        let answer = run_on(alloc, &["plan", "f"], &mut shelf, &[])?;
+        assert!(rt; answer.reports(SMALLEST_REPORT) == fits, "{count}");
+        assert!(rt;
+            answer.notes(Status::Limit, "limit: demand.csv longer than 33554432") != fits,
+            "{count}"
+        );
+    }
+    Ok(())
+}
+
+// Demand rows of two stores that ask for nothing in any week on any rung.
+fn no_demand(alloc: Global, weeks: u32, rungs: u32) -> Result<Vec<u8>, AllocError> {
+    let mut text = b"store,week,rung,units,weight\n".to_vec(alloc)?;
+    for week in 1..=weeks {
+        for rung in 1..=rungs {
+            text.extend_from_slice(
+                format!(in alloc; "a,{week},{rung},0,1\nb,{week},{rung},0,1\n")?.as_bytes(),
+            )?;
+        }
+    }
+    Ok(text)
+}
+
+#[test]
+fn cells_are_counted(rt: HostRuntime) -> Result<(), Fail> {
+    let alloc = rt.alloc();
+    let demand = no_demand(alloc, 52, 12)?;
+    let ladder = b"rung,price\n1,12\n2,11\n3,10\n4,9\n5,8\n6,7\n7,6\n8,5\n9,4\n10,3\n11,2\n12,1\n";
+    // 53 * 12 * 12 * 1 cells a stock: 15,996,672 at 2000 and 94 units, and 16,004,304 at 2000 and 95.
+    let stocks: [(&[u8], bool); 2] = [
+        (b"store,units,salvage\na,2000,1\nb,94,1\n", true),
+        (b"store,units,salvage\na,2000,1\nb,95,1\n", false),
+    ];
+    for (stock, fits) in stocks {
+        let files = Files {
+            rules: b"{\"weeks\":52,\"base\":1}",
+            ladder,
+            stock,
+            demand: &demand,
+        };
+        let answer = planned(alloc, files)?;
+        assert!(rt; answer.notes(Status::Limit, "limit: cells 16004304") != fits);
+        assert!(rt;
+            answer
+                .out
+                .bytes()
+                .ends_with(b"revenue 2094.00000000 2094.00000000\n")
+                == fits
+        );
+    }
+    Ok(())
+}
+
+#[test]
+fn each_call_fails_once(rt: HostRuntime) -> Result<(), Fail> {
+    let alloc = rt.alloc();
+    for fail in 1..=19 {
+        let fails = list_of(alloc, &[fail])?;
+        let mut shelf = MemoryShelf::new(held(alloc, SMALLEST, 0)?, 16, fails);
+        let answer = run_on(alloc, &["plan", "f"], &mut shelf, &[])?;
+        let note = match fail {
+            1..=4 => "read fault: rules.json",
+            5..=8 => "read fault: ladder.csv",
+            9..=12 => "read fault: stock.csv",
+            _ => "read fault: demand.csv",
+        };
+        let failed = fail <= 18;
+        assert!(rt; answer.notes(Status::ReadFault, note) == failed, "shelf {fail}");
+        assert!(rt; answer.reports(SMALLEST_REPORT) != failed, "shelf {fail}");
+    }
+    for fail in 1..=7 {
+        let mut shelf = MemoryShelf::new(held(alloc, SMALLEST, 0)?, 1000, Vec::new(alloc));
+        let answer = run_on(alloc, &["plan", "f"], &mut shelf, &[fail])?;
+        let stands = (16 * (fail as usize - 1)).min(SMALLEST_REPORT.len());
+        let failed = stands < SMALLEST_REPORT.len();
+        assert!(rt;
+            (answer.status == Status::WriteFault) == failed,
+            "sink {fail}"
+        );
+        assert!(rt;
+            answer.out.bytes() == &SMALLEST_REPORT[..stands],
+            "sink {fail}"
+        );
+        assert!(rt; (answer.note.bytes() == b"write fault: report\n".as_slice()) == failed);
+    }
+    Ok(())
+}
+
+#[test]
+fn words_are_read(rt: HostRuntime) -> Result<(), Fail> {
+    let alloc = rt.alloc();
+    let cases: [(&[&str], Status, &str); 11] = [
+        (&[], Status::Words, USAGE),
+        (&["plan"], Status::Words, USAGE),
+        (&["paint", "f"], Status::Words, USAGE),
+        (&["plan", "-f"], Status::Words, USAGE),
+        (&["plan", "f", "g"], Status::Words, USAGE),
+        (&["plan", "f", "--steps", "101"], Status::Words, USAGE),
+        (&["check", "f"], Status::NotYet, "not yet: job"),
+        (&["judge", "f"], Status::NotYet, "not yet: job"),
+        (&["make", "f", "--cert", "c"], Status::NotYet, "not yet: job"),
+        (&["plan", "f", "--cert", "c"], Status::NotYet, "not yet: cert"),
+        (&["plan", "e"], Status::Absent, "absent: rules.json"),
+    ];
+    for (words, status, note) in cases {
+        let mut shelf = MemoryShelf::new(held(alloc, SMALLEST, 0)?, 16, Vec::new(alloc));
+        let answer = run_on(alloc, words, &mut shelf, &[])?;
+        assert!(rt; answer.notes(status, note), "{note}");
+    }
+    let words = ["plan", "--steps", "3", "f", "--step=2", "--nodes", "0", "--seed", "7"];
+    let mut shelf = MemoryShelf::new(held(alloc, SMALLEST, 0)?, 16, Vec::new(alloc));
+    let answer = run_on(alloc, &words, &mut shelf, &[])?;
+    assert!(rt; answer.reports(SMALLEST_REPORT));
+    // A note that can't be written changes no status.
+    let mut shelf = MemoryShelf::new(Vec::new(alloc), 16, Vec::new(alloc));
+    let mut desk = MemoryDesk::new(alloc, 1, 10, 1, Vec::new(alloc))?;
+    let mut out = MemorySink::new(alloc, 10, 16, Vec::new(alloc))?;
+    let mut note = MemorySink::new(alloc, 0, 16, Vec::new(alloc))?;
+    let words = words_of(alloc, &["plan"])?;
+    let status = run(alloc, &words, &mut shelf, &mut desk, &mut out, &mut note);
+    assert!(rt; status == Status::Words && note.bytes().is_empty());
+    Ok(())
+}
+
+#[test]
+fn statuses_have_their_numbers(rt: HostRuntime) {
+    let numbers = [
+        (Status::Ok, 0),
+        (Status::Refused, 1),
+        (Status::Words, 2),
+        (Status::NoPath, 3),
+        (Status::ReadFault, 4),
+        (Status::WriteFault, 5),
+        (Status::Limit, 6),
+        (Status::Memory, 8),
+        (Status::Absent, 10),
+        (Status::NotYet, 11),
+    ];
+    for (status, number) in numbers {
+        assert_eq!(rt; status.number(), number);
+    }
+}
