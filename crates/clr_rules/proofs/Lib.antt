@@ -1,2 +1,3 @@
 pub mod Names
 pub mod Staying
+pub mod Weeks

@@ -3,9 +3,11 @@
 
 ghost use Rattle.clr_rules.specs.Rules.{StayingObeys};
 
+mod calendar_file;
 mod limits;
 mod season_rules;
 
+pub use calendar_file::read_calendar;
 pub use limits::{Limits, read_limits};
 pub use season_rules::{Calendar, Rules, Window, free_calendar};
 

@@ -50,6 +50,14 @@ pub fn free_calendar(alloc: Global, weeks: u32) -> Result<Calendar, AllocError>
 }
 
 impl Calendar {
+    // The calendar of these windows, from week 1.
+    pub(crate) fn of_windows(windows: Vec<Window>) -> Calendar
+        requires { length windows.items ≤ 52 }
+        ensures { result ≡ windows.items }
+    {
+        Calendar { windows }
+    }
+
     /// The number of weeks.
     pub fn len(&self) -> u32
         ensures { result ≡ length self.now }
