@@ -1,2 +1,4 @@
 pub mod Limits
 pub mod Rules
+pub mod LiveSummaries
+pub mod FirstPath
