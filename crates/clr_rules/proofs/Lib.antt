@@ -1,3 +1,15 @@
 pub mod Names
 pub mod Staying
+pub mod NumberLists
+pub mod ListTests
 pub mod Weeks
+pub mod LiveLemmas
+pub mod SummaryLemmas
+pub mod Breach
+pub mod GridLemmas
+pub mod FlagLemmas
+pub mod LiveLists
+pub mod Sweeps
+pub mod Pairs
+pub mod LiveLaw
+pub mod FirstPaths

@@ -1,7 +1,7 @@
 use Rattle.std.proofs.Common.{◌≡◌, ◌+◌, ◌∙◌, ◌++◌, ◌∷◌, [], suc, map, ap, refl, rules, arith}
 use Rattle.clr_num.specs.Lists.{numbers}
 use Rattle.clr_rules.specs.Calendar.{listed_window}
-use Rattle.clr_rules.proofs.Weeks.{numbers-more}
+use Rattle.clr_rules.proofs.NumberLists.{numbers-more}
 use Rattle.clr_rules.proofs.calendar_file.windows.Goals as goal
 
 pub loop-index-preserved : goal.loop-index-preserved
