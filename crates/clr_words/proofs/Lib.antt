@@ -1,0 +1,4 @@
+pub mod Options
+pub mod Readings
+pub mod Rules
+pub mod Unasked
