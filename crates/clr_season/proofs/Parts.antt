@@ -1,18 +1,19 @@
 -- The parts that the files give belong together.
 use Rattle.std.proofs.Common.{◌≤◌, ℕ, List, length}
 use Rattle.clr_rules.specs.Limits.{AreLimits}
-use Rattle.clr_rules.specs.Rules.{IsRulebook, free_weeks, rulebook_of}
+use Rattle.clr_rules.specs.Rules.{IsRulebook, rulebook_of}
 use Rattle.clr_rules.specs.declared.limits.Limits.{Limits}
+use Rattle.clr_rules.specs.declared.season_rules.Window.{Window}
 use Rattle.clr_stock.specs.Stock.{AreStores, Store}
 use Rattle.clr_demand.specs.Weights.{AreWeights, DemandWeights}
 use Rattle.clr_season.specs.Season.{cells, most_cells}
 use Rattle.clr_season.specs.View.{FitTogether}
 
 pub parts_fit :
-    (limits : Limits) (prices : List ℕ) (stores : List Store) (demand : DemandWeights) → AreLimits limits → IsRulebook (rulebook_of limits (free_weeks limits.weeks) prices) → 1 ≤ length stores → AreStores stores →
-    AreWeights (length stores) limits.weeks (length prices) limits.base demand → cells (rulebook_of limits (free_weeks limits.weeks) prices) stores ≤ most_cells →
-    FitTogether limits.version (rulebook_of limits (free_weeks limits.weeks) prices) stores limits.base demand
-parts_fit limits prices stores demand ranges book some all weights few = record {
+    (limits : Limits) (windows : List Window) (prices : List ℕ) (stores : List Store) (demand : DemandWeights) → AreLimits limits → IsRulebook (rulebook_of limits windows prices) → 1 ≤ length stores → AreStores stores →
+    AreWeights (length stores) limits.weeks (length prices) limits.base demand → cells (rulebook_of limits windows prices) stores ≤ most_cells →
+    FitTogether limits.version (rulebook_of limits windows prices) stores limits.base demand
+parts_fit limits windows prices stores demand ranges book some all weights few = record {
   stores_are = weights.stores_are;
   weeks_are = weights.weeks_are;
   rungs_are = weights.rungs_are;

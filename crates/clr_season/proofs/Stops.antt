@@ -3,9 +3,10 @@ use Rattle.std.proofs.Common.{◌≡◌, ◌≤◌, refl, ℕ, List, arith, true
 use Rattle.std.specs.Prelude.{Option, Some, None, Result, Ok, Err, IfSome, MatchResult, nat_le, length, map, if◌then◌else◌}
 use Rattle.clr_io.specs.Files.{Files, held}
 use Rattle.clr_text.specs.Tables.{Refusal}
-use Rattle.clr_rules.specs.Limits.{limits_of}
+use Rattle.clr_rules.specs.Calendar.{calendar_of}
 use Rattle.clr_rules.specs.Rules.{free_weeks, rulebook_of}
 use Rattle.clr_rules.specs.declared.limits.Limits.{Limits}
+use Rattle.clr_rules.specs.declared.season_rules.Window.{Window}
 use Rattle.clr_stock.specs.Ladder.{ladder_of}
 use Rattle.clr_stock.specs.Stock.{Store, stock_of}
 use Rattle.clr_demand.specs.Demand.{demand_of}
@@ -14,8 +15,8 @@ use Rattle.clr_season.specs.Season.{Season, cells, most_cells}
 use Rattle.clr_season.specs.declared.reads.File.{File}
 use Rattle.clr_season.specs.declared.reads.File.TheVariants as f
 use Rattle.clr_season.specs.declared.reads.SeasonError.{SeasonError}
-use Rattle.clr_season.specs.declared.reads.SeasonError.TheVariants.{Read, Absent, TooLong, Refused, Cells, NotYet, Memory}
-use Rattle.clr_season.specs.Reads.{◌>>=◌, Gives, ReachesFile, Stop, are_plain, fetched, has_relabelling, is_scaled, limits_in, most_bytes, not_yet, path_of, place_of, plain_limits, prices_in, read_as, season_in, season_within, short_enough, stop_place, stores_in, too_long, too_many_cells, weights_in}
+use Rattle.clr_season.specs.declared.reads.SeasonError.TheVariants.{Read, Absent, TooLong, Refused, Cells, Memory}
+use Rattle.clr_season.specs.Reads.{◌>>=◌, Gives, ReachesFile, Stop, calendar_in, fetched, limits_in, most_bytes, path_of, place_of, prices_in, read_as, season_in, season_within, short_enough, stop_place, stores_in, too_long, too_many_cells, weights_in}
 
 -- what stands against it, if anything does, stands at this place or behind it
 abbrev pub StopsFrom : {A : Type 0} → ℕ → Result A Stop → Type 0
@@ -48,52 +49,54 @@ later-from place later (Err stop) p from = omega arith
 
 -- ---- what comes behind each file
 
-abbrev behind_stock : Files → List ℕ → Limits → List ℕ → List Store → Result Season Stop
-behind_stock files folder limits prices stores = weights_in files folder limits prices stores >>= season_within limits prices stores
+abbrev behind_stock : Files → List ℕ → Limits → List Window → List ℕ → List Store → Result Season Stop
+behind_stock files folder limits windows prices stores = weights_in files folder limits prices stores >>= season_within limits windows prices stores
 
-abbrev behind_ladder : Files → List ℕ → Limits → List ℕ → Result Season Stop
-behind_ladder files folder limits prices = stores_in files folder limits >>= behind_stock files folder limits prices
+abbrev behind_ladder : Files → List ℕ → Limits → List Window → List ℕ → Result Season Stop
+behind_ladder files folder limits windows prices = stores_in files folder limits >>= behind_stock files folder limits windows prices
 
-abbrev behind_rules : Files → List ℕ → Limits → Result Season Stop
-behind_rules files folder limits = prices_in files folder >>= behind_ladder files folder limits
+abbrev behind_calendar : Files → List ℕ → Limits → List Window → Result Season Stop
+behind_calendar files folder limits windows = prices_in files folder >>= behind_ladder files folder limits windows
 
 abbrev behind_limits : Files → List ℕ → Limits → Result Season Stop
-behind_limits files folder limits = plain_limits limits >>= behind_rules files folder
+behind_limits files folder limits = calendar_in files folder limits >>= behind_calendar files folder limits
 
 few-or-many : (season : Season) (found : ℕ) (few : Bool) → StopsFrom 5 (if few then Ok season else Err (too_many_cells found))
 few-or-many season found true = tt
 few-or-many season found false = omega arith
 
-within-from : (limits : Limits) (prices : List ℕ) (stores : List Store) (weights : DemandWeights) → StopsFrom 5 (season_within limits prices stores weights)
+within-from : (limits : Limits) (windows : List Window) (prices : List ℕ) (stores : List Store) (weights : DemandWeights) → StopsFrom 5 (season_within limits windows prices stores weights)
 unfolding season_within
-within-from limits prices stores weights = few-or-many _ _ (nat_le (cells (rulebook_of limits (free_weeks limits.weeks) prices) stores) most_cells)
+within-from limits windows prices stores weights = few-or-many _ _ (nat_le (cells (rulebook_of limits windows prices) stores) most_cells)
 
 file-from : {A : Type 0} (files : Files) (folder : List ℕ) (file : File) (reader : List ℕ → Result A Refusal) → StopsFrom (place_of file) (fetched files folder file >>= (λ bytes. read_as file (reader bytes)))
 file-from files folder file reader =
     behind-from (place_of file) (fetched files folder file) (λ bytes. read_as file (reader bytes)) (fetched-from files folder file) (λ bytes. read-from file (reader bytes))
 
-behind-stock-from : (files : Files) (folder : List ℕ) (limits : Limits) (prices : List ℕ) (stores : List Store) → StopsFrom 5 (behind_stock files folder limits prices stores)
+behind-stock-from : (files : Files) (folder : List ℕ) (limits : Limits) (windows : List Window) (prices : List ℕ) (stores : List Store) → StopsFrom 5 (behind_stock files folder limits windows prices stores)
 unfolding weights_in fetched
-behind-stock-from files folder limits prices stores =
-    behind-from 5 (weights_in files folder limits prices stores) (season_within limits prices stores) (file-from files folder f.Demand _) (within-from limits prices stores)
+behind-stock-from files folder limits windows prices stores =
+    behind-from 5 (weights_in files folder limits prices stores) (season_within limits windows prices stores) (file-from files folder f.Demand _) (within-from limits windows prices stores)
 
-behind-ladder-from : (files : Files) (folder : List ℕ) (limits : Limits) (prices : List ℕ) → StopsFrom 4 (behind_ladder files folder limits prices)
+behind-ladder-from : (files : Files) (folder : List ℕ) (limits : Limits) (windows : List Window) (prices : List ℕ) → StopsFrom 4 (behind_ladder files folder limits windows prices)
 unfolding stores_in fetched
-behind-ladder-from files folder limits prices =
-    behind-from 4 (stores_in files folder limits) (behind_stock files folder limits prices) (file-from files folder f.Stock _) (λ stores. later-from 4 5 _ (omega arith) (behind-stock-from files folder limits prices stores))
+behind-ladder-from files folder limits windows prices =
+    behind-from 4 (stores_in files folder limits) (behind_stock files folder limits windows prices) (file-from files folder f.Stock _) (λ stores. later-from 4 5 _ (omega arith) (behind-stock-from files folder limits windows prices stores))
 
-behind-rules-from : (files : Files) (folder : List ℕ) (limits : Limits) → StopsFrom 3 (behind_rules files folder limits)
+behind-calendar-from : (files : Files) (folder : List ℕ) (limits : Limits) (windows : List Window) → StopsFrom 3 (behind_calendar files folder limits windows)
 unfolding prices_in fetched
-behind-rules-from files folder limits =
-    behind-from 3 (prices_in files folder) (behind_ladder files folder limits) (file-from files folder f.Ladder _) (λ prices. later-from 3 4 _ (omega arith) (behind-ladder-from files folder limits prices))
+behind-calendar-from files folder limits windows =
+    behind-from 3 (prices_in files folder) (behind_ladder files folder limits windows) (file-from files folder f.Ladder _) (λ prices. later-from 3 4 _ (omega arith) (behind-ladder-from files folder limits windows prices))
 
-plain-from : (limits : Limits) (plain : Bool) → StopsFrom 1 (if plain then Ok limits else Err not_yet)
-plain-from limits true = tt
-plain-from limits false = omega arith
+calendar-or-none : (files : Files) (folder : List ℕ) (weeks : ℕ) (has : Bool) →
+    StopsFrom 2 (if has then fetched files folder f.Calendar >>= (λ bytes. read_as f.Calendar (calendar_of weeks bytes)) else Ok (free_weeks weeks))
+calendar-or-none files folder weeks true = file-from files folder f.Calendar _
+calendar-or-none files folder weeks false = tt
 
-behind-limits-from : (files : Files) (folder : List ℕ) (limits : Limits) → StopsFrom 1 (behind_limits files folder limits)
+behind-limits-from : (files : Files) (folder : List ℕ) (limits : Limits) → StopsFrom 2 (behind_limits files folder limits)
+unfolding calendar_in
 behind-limits-from files folder limits =
-    behind-from 1 (plain_limits limits) (behind_rules files folder) (plain-from limits (are_plain limits)) (λ plain. later-from 1 3 _ (omega arith) (behind-rules-from files folder plain))
+    behind-from 2 (calendar_in files folder limits) (behind_calendar files folder limits) (calendar-or-none files folder limits.weeks limits.calendar) (λ windows. later-from 2 3 _ (omega arith) (behind-calendar-from files folder limits windows))
 
 -- ---- a season that is not read
 
@@ -108,7 +111,6 @@ same-error file (Absent other) given next is of behind = rw is refl
 same-error file (TooLong other) given next is of behind = rw is refl
 same-error file (Refused other row column why) given next is of behind = rw is refl
 same-error file (Cells found) given next is of behind = rw is refl
-same-error file NotYet given next is of behind = rw is refl
 same-error file Memory given next is of behind = tt
 
 pub limits-error :
@@ -116,42 +118,42 @@ pub limits-error :
     IfSome files (λ held. Gives {X = Season} {Y = Season} (λ s. s) (Err error) (season_in held folder))
 unfolding season_in
 limits-error None folder error is of = tt
-limits-error (Some files) folder error is of = same-error f.Rules error (limits_in files folder) (behind_limits files folder) is of (behind-limits-from files folder)
+limits-error (Some files) folder error is of = same-error f.Rules error (limits_in files folder) (behind_limits files folder) is of (λ limits. later-from 1 2 _ (omega arith) (behind-limits-from files folder limits))
+
+pub calendar-error :
+    (files : Option Files) (folder : List ℕ) (limits : Limits) (error : SeasonError) → IfSome files (λ held. limits_in held folder ≡ Ok limits) →
+    IfSome files (λ held. Gives {X = List Window} {Y = List Window} (λ x. x) (Err error) (calendar_in held folder limits)) → ((other : File) → error ≡ Read other → other ≡ f.Calendar) →
+    IfSome files (λ held. Gives {X = Season} {Y = Season} (λ s. s) (Err error) (season_in held folder))
+unfolding season_in
+calendar-error None folder limits error read is of = tt
+calendar-error (Some files) folder limits error read is of =
+    rw read (same-error f.Calendar error (calendar_in files folder limits) (behind_calendar files folder limits) is of (λ windows. later-from 2 3 _ (omega arith) (behind-calendar-from files folder limits windows)))
 
 pub ladder-error :
-    (files : Option Files) (folder : List ℕ) (limits : Limits) (error : SeasonError) → IfSome files (λ held. limits_in held folder ≡ Ok limits) → are_plain limits ≡ true →
+    (files : Option Files) (folder : List ℕ) (limits : Limits) (windows : List Window) (error : SeasonError) → IfSome files (λ held. limits_in held folder ≡ Ok limits) → IfSome files (λ held. calendar_in held folder limits ≡ Ok windows) →
     IfSome files (λ held. Gives {X = List ℕ} {Y = List ℕ} (λ x. x) (Err error) (prices_in held folder)) → ((other : File) → error ≡ Read other → other ≡ f.Ladder) →
     IfSome files (λ held. Gives {X = Season} {Y = Season} (λ s. s) (Err error) (season_in held folder))
 unfolding season_in
-ladder-error None folder limits error read plain is of = tt
-ladder-error (Some files) folder limits error read plain is of = rw (read, plain) (same-error f.Ladder error (prices_in files folder) (behind_ladder files folder limits) is of (λ prices. later-from 3 4 _ (omega arith) (behind-ladder-from files folder limits prices)))
+ladder-error None folder limits windows error read calendar is of = tt
+ladder-error (Some files) folder limits windows error read calendar is of =
+    rw (read, calendar) (same-error f.Ladder error (prices_in files folder) (behind_ladder files folder limits windows) is of (λ prices. later-from 3 4 _ (omega arith) (behind-ladder-from files folder limits windows prices)))
 
 pub stock-error :
-    (files : Option Files) (folder : List ℕ) (limits : Limits) (prices : List ℕ) (error : SeasonError) → IfSome files (λ held. limits_in held folder ≡ Ok limits) → are_plain limits ≡ true →
-    IfSome files (λ held. prices_in held folder ≡ Ok prices) →
+    (files : Option Files) (folder : List ℕ) (limits : Limits) (windows : List Window) (prices : List ℕ) (error : SeasonError) → IfSome files (λ held. limits_in held folder ≡ Ok limits) →
+    IfSome files (λ held. calendar_in held folder limits ≡ Ok windows) → IfSome files (λ held. prices_in held folder ≡ Ok prices) →
     IfSome files (λ held. Gives {X = List Store} {Y = List Store} (λ x. x) (Err error) (stores_in held folder limits)) → ((other : File) → error ≡ Read other → other ≡ f.Stock) →
     IfSome files (λ held. Gives {X = Season} {Y = Season} (λ s. s) (Err error) (season_in held folder))
 unfolding season_in
-stock-error None folder limits prices error read plain ladder is of = tt
-stock-error (Some files) folder limits prices error read plain ladder is of =
-    rw (read, plain, ladder) (same-error f.Stock error (stores_in files folder limits) (behind_stock files folder limits prices) is of (λ stores. later-from 4 5 _ (omega arith) (behind-stock-from files folder limits prices stores)))
+stock-error None folder limits windows prices error read calendar ladder is of = tt
+stock-error (Some files) folder limits windows prices error read calendar ladder is of =
+    rw (read, calendar, ladder) (same-error f.Stock error (stores_in files folder limits) (behind_stock files folder limits windows prices) is of (λ stores. later-from 4 5 _ (omega arith) (behind-stock-from files folder limits windows prices stores)))
 
 pub demand-error :
-    (files : Option Files) (folder : List ℕ) (limits : Limits) (prices : List ℕ) (stores : List Store) (error : SeasonError) → IfSome files (λ held. limits_in held folder ≡ Ok limits) → are_plain limits ≡ true →
-    IfSome files (λ held. prices_in held folder ≡ Ok prices) → IfSome files (λ held. stores_in held folder limits ≡ Ok stores) →
+    (files : Option Files) (folder : List ℕ) (limits : Limits) (windows : List Window) (prices : List ℕ) (stores : List Store) (error : SeasonError) → IfSome files (λ held. limits_in held folder ≡ Ok limits) →
+    IfSome files (λ held. calendar_in held folder limits ≡ Ok windows) → IfSome files (λ held. prices_in held folder ≡ Ok prices) → IfSome files (λ held. stores_in held folder limits ≡ Ok stores) →
     IfSome files (λ held. Gives {X = DemandWeights} {Y = DemandWeights} (λ x. x) (Err error) (weights_in held folder limits prices stores)) → ((other : File) → error ≡ Read other → other ≡ f.Demand) →
     IfSome files (λ held. Gives {X = Season} {Y = Season} (λ s. s) (Err error) (season_in held folder))
 unfolding season_in
-demand-error None folder limits prices stores error read plain ladder stock is of = tt
-demand-error (Some files) folder limits prices stores error read plain ladder stock is of =
-    rw (read, plain, ladder, stock) (same-error f.Demand error (weights_in files folder limits prices stores) (season_within limits prices stores) is of (within-from limits prices stores))
-
--- the season, or too many cells
-pub season-given :
-    (files : Option Files) (folder : List ℕ) (limits : Limits) (prices : List ℕ) (stores : List Store) (weights : DemandWeights) (result : Result Season SeasonError) → IfSome files (λ held. limits_in held folder ≡ Ok limits) → are_plain limits ≡ true →
-    IfSome files (λ held. prices_in held folder ≡ Ok prices) → IfSome files (λ held. stores_in held folder limits ≡ Ok stores) → IfSome files (λ held. weights_in held folder limits prices stores ≡ Ok weights) →
-    Gives {X = Season} {Y = Season} (λ s. s) result (season_within limits prices stores weights) →
-    IfSome files (λ held. Gives {X = Season} {Y = Season} (λ s. s) result (season_in held folder))
-unfolding season_in
-season-given None folder limits prices stores weights result read plain ladder stock demand is = tt
-season-given (Some files) folder limits prices stores weights result read plain ladder stock demand is = rw (read, plain, ladder, stock, demand) is
+demand-error None folder limits windows prices stores error read calendar ladder stock is of = tt
+demand-error (Some files) folder limits windows prices stores error read calendar ladder stock is of =
+    rw (read, calendar, ladder, stock) (same-error f.Demand error (weights_in files folder limits prices stores) (season_within limits windows prices stores) is of (within-from limits windows prices stores))

@@ -1,12 +1,14 @@
 -- What the files of a folder read to: a season, or what stands against one first, in the order of the files.
-use Rattle.std.specs.Prelude.{◌≡◌, ◌<◌, ◌≤◌, ◌++◌, ◌∷◌, ◌==◌, ◌&&◌, ℕ, Bool, not, nat_le, length, map, List, codes, Option, Some, None, Result, Ok, Err, MatchResult, IfSome, if◌then◌else◌}
+use Rattle.std.specs.Prelude.{◌≡◌, ◌≤◌, ◌++◌, ◌∷◌, ◌==◌, ℕ, Bool, nat_le, length, map, List, codes, Option, Some, None, Result, Ok, Err, MatchResult, IfSome, if◌then◌else◌}
 use Rattle.clr_io.specs.Files.{Files, held}
 use Rattle.clr_text.specs.Tables.{Refusal}
 use Rattle.clr_text.specs.declared.file.FileError.{FileError}
 use Rattle.clr_text.specs.declared.file.FileError.TheVariants as f
+use Rattle.clr_rules.specs.Calendar.{calendar_of}
 use Rattle.clr_rules.specs.Limits.{limits_of}
-use Rattle.clr_rules.specs.Rules.{Rulebook, free_weeks, rulebook_of}
+use Rattle.clr_rules.specs.Rules.{free_weeks, rulebook_of}
 use Rattle.clr_rules.specs.declared.limits.Limits.{Limits}
+use Rattle.clr_rules.specs.declared.season_rules.Window.{Window}
 use Rattle.clr_stock.specs.Ladder.{ladder_of}
 use Rattle.clr_stock.specs.Stock.{Store, stock_of}
 use Rattle.clr_demand.specs.Demand.{demand_of}
@@ -16,7 +18,7 @@ use Rattle.clr_season.specs.View.{season_from}
 use Rattle.clr_season.specs.declared.reads.File.{File}
 use Rattle.clr_season.specs.declared.reads.File.TheVariants.{Rules, Calendar, Ladder, Stock, Demand}
 use Rattle.clr_season.specs.declared.reads.SeasonError.{SeasonError}
-use Rattle.clr_season.specs.declared.reads.SeasonError.TheVariants.{Read, Absent, TooLong, Refused, Cells, NotYet, Memory}
+use Rattle.clr_season.specs.declared.reads.SeasonError.TheVariants.{Read, Absent, TooLong, Refused, Cells, Memory}
 
 -- ---- the files of a folder
 
@@ -36,13 +38,12 @@ path_of folder file = folder ++ 47 ∷ name_of file
 
 -- ---- what stands against a season
 
--- a file that isn't held, one that is too long, the first refusal of a file's content, too many cells, or rules that can't be planned by yet
+-- a file that isn't held, one that is too long, the first refusal of a file's content, or too many cells
 pub data Stop : Type 0 where
   absent : File → Stop
   too_long : File → Stop
   refused : File → Refusal → Stop
   too_many_cells : ℕ → Stop
-  not_yet : Stop
 
 -- the first that stands against it, or what comes next
 infixl 10 ◌>>=◌
@@ -68,12 +69,12 @@ read_as file (Err refusal) = Err (refused file refusal)
 unfoldable pub limits_in : Files → List ℕ → Result Limits Stop
 limits_in files folder = fetched files folder Rules >>= (λ bytes. read_as Rules (limits_of bytes))
 
--- the rules that a season may have by now: those where their fields are absent
-abbrev pub are_plain : Limits → Bool
-are_plain limits = (limits.markdowns == 12) && ((limits.spacing == 1) && ((limits.first_cut == 100) && not limits.calendar))
-
-abbrev pub plain_limits : Limits → Result Limits Stop
-plain_limits limits = if are_plain limits then Ok limits else Err not_yet
+-- the windows of the weeks: those of calendar.csv, where the rules say that there is one, and else each rung in each week
+unfoldable pub calendar_in : Files → List ℕ → Limits → Result (List Window) Stop
+calendar_in files folder limits =
+    if limits.calendar
+    then fetched files folder Calendar >>= (λ bytes. read_as Calendar (calendar_of limits.weeks bytes))
+    else Ok (free_weeks limits.weeks)
 
 unfoldable pub prices_in : Files → List ℕ → Result (List ℕ) Stop
 prices_in files folder = fetched files folder Ladder >>= (λ bytes. read_as Ladder (ladder_of bytes))
@@ -94,21 +95,21 @@ weights_in files folder limits prices stores =
     fetched files folder Demand >>= (λ bytes. read_as Demand (demand_of (map (λ store. store.name) stores) (record { weeks = limits.weeks; rungs = length prices; base = limits.base }) (is_scaled limits) bytes))
 
 -- the season of these parts, where its cells are not too many
-unfoldable pub season_within : Limits → List ℕ → List Store → DemandWeights → Result Season Stop
-season_within limits prices stores weights =
-    if nat_le (cells (rulebook_of limits (free_weeks limits.weeks) prices) stores) most_cells
-    then Ok (season_from limits.version (rulebook_of limits (free_weeks limits.weeks) prices) stores limits.base weights)
-    else Err (too_many_cells (cells (rulebook_of limits (free_weeks limits.weeks) prices) stores))
+unfoldable pub season_within : Limits → List Window → List ℕ → List Store → DemandWeights → Result Season Stop
+season_within limits windows prices stores weights =
+    if nat_le (cells (rulebook_of limits windows prices) stores) most_cells
+    then Ok (season_from limits.version (rulebook_of limits windows prices) stores limits.base weights)
+    else Err (too_many_cells (cells (rulebook_of limits windows prices) stores))
 
 -- The season of a folder, or what stands against it first: each file is held, not too long and read, before the next is opened.
 unfoldable pub season_in : Files → List ℕ → Result Season Stop
 season_in files folder = do
-  read ← limits_in files folder
-  limits ← plain_limits read
+  limits ← limits_in files folder
+  windows ← calendar_in files folder limits
   prices ← prices_in files folder
   stores ← stores_in files folder limits
   weights ← weights_in files folder limits prices stores
-  season_within limits prices stores weights
+  season_within limits windows prices stores weights
 
 -- ---- what is answered
 
@@ -126,7 +127,6 @@ stop_place (absent file) = place_of file
 stop_place (too_long file) = place_of file
 stop_place (refused file refusal) = place_of file
 stop_place (too_many_cells found) = 6
-stop_place not_yet = 2
 
 -- The files before this one are held, not too long and not refused: what stands against the season, if anything does, is of this file or of one behind it.
 abbrev pub ReachesFile : {A : Type 0} → File → Result A Stop → Type 0
@@ -140,7 +140,6 @@ Gives view (Err (Absent file)) given = given ≡ Err (absent file)
 Gives view (Err (TooLong file)) given = given ≡ Err (too_long file)
 Gives view (Err (Refused file row column why)) given = given ≡ Err (refused file (record { row = row; column = column; why = why }))
 Gives view (Err (Cells found)) given = given ≡ Err (too_many_cells found)
-Gives view (Err NotYet) given = given ≡ Err not_yet
 Gives view (Err Memory) given = Unit {0}
 
 -- a reader's error, as one of the season

@@ -3,15 +3,17 @@ ghost use Rattle.std.specs.Prelude.{◌≡◌, ◌≤◌, ◌<◌, ℕ, IfOk, If
 ghost use Rattle.clr_io.specs.Causes.{Rose};
 ghost use Rattle.clr_num.specs.Prices.{IsLadder};
 ghost use Rattle.clr_rules.specs.Limits.{AreLimits};
+ghost use Rattle.clr_rules.specs.Rules.{free_weeks};
 ghost use Rattle.clr_stock.specs.Stock.{AreStores};
 ghost use Rattle.clr_demand.specs.Weights.{AreWeights};
 ghost use Rattle.clr_season.specs.declared.reads.File.{File};
-ghost use Rattle.clr_season.specs.Reads.{Gives, fetched, file_error, has_relabelling, is_scaled, limits_in, name_of, path_of, prices_in, stores_in, weights_in};
+ghost use Rattle.clr_season.specs.declared.reads.SeasonError.{SeasonError};
+ghost use Rattle.clr_season.specs.Reads.{Gives, calendar_in, fetched, file_error, has_relabelling, is_scaled, limits_in, name_of, path_of, prices_in, stores_in, weights_in};
 
 use crate::reads::{File, SeasonError};
 use clr_demand::{Demand, read_demand};
 use clr_io::{ReadError, Shelf, read_whole};
-use clr_rules::{Limits, read_limits};
+use clr_rules::{Calendar, Limits, free_calendar, read_calendar, read_limits};
 use clr_stock::{Ladder, Stock, read_ladder, read_stock};
 use clr_text::FileError;
 use std::alloc::{AllocError, Global};
@@ -99,6 +101,45 @@ pub(crate) fn folder_limits<H: Shelf>(
     match read_limits(alloc, &bytes) {
         Ok(limits) => Ok(limits),
         Err(error) => Err(refused(File::Rules, error)),
+    }
+}
+
+// The windows of a season without calendar.csv.
+fn free_windows(alloc: Global, weeks: u32) -> Result<Calendar, SeasonError>
+    requires { weeks ≤ 52 }
+    ensures windows { IfOk result (λ c. c ≡ free_weeks weeks) }
+    ensures weeks { IfOk result (λ c. length c ≡ weeks) }
+    ensures memory { (error : SeasonError) → IsErrOf result error → error ≡ SeasonError.Memory }
+{
+    match free_calendar(alloc, weeks) {
+        Ok(calendar) => Ok(calendar),
+        Err(_) => Err(SeasonError::Memory),
+    }
+}
+
+/// The windows of the weeks: those of calendar.csv, where the rules say that there is one.
+#[tactic(auto, unfolding(crate::specs::Reads::calendar_in))]
+pub(crate) fn folder_calendar<H: Shelf>(
+    alloc: Global,
+    shelf: &mut H,
+    folder: &str,
+    limits: Limits,
+) -> Result<Calendar, SeasonError>
+    requires { AreLimits limits }
+    ensures gives { IfSome (H.files shelf.old) (λ files. Gives (λ c. c) result (calendar_in files folder.now limits)) }
+    ensures weeks { IfOk result (λ c. length c ≡ limits.weeks) }
+    ensures read { (f : File) → IsErrOf result (SeasonError.Read f) → (f ≡ File.Calendar) × Rose (H.faults shelf.old) (H.faults shelf.new) }
+    ensures too_long { (f : File) → IsErrOf result (SeasonError.TooLong f) → 33554432 < H.taken shelf.new }
+    ensures files { H.files shelf.new ≡ H.files shelf.old }
+    ensures later { H.faults shelf.old ≤ H.faults shelf.new }
+{
+    if !limits.calendar {
+        return free_windows(alloc, limits.weeks);
+    }
+    let bytes = fetch(alloc, shelf, folder, File::Calendar)?;
+    match read_calendar(alloc, &bytes, limits.weeks) {
+        Ok(calendar) => Ok(calendar),
+        Err(error) => Err(refused(File::Calendar, error)),
     }
 }
 

@@ -1,15 +1,13 @@
 // The season of a folder.
 ghost use Rattle.std.specs.Prelude.{◌≡◌, ◌≤◌, ◌<◌, IfOk, IfSome, IsErrOf};
 ghost use Rattle.clr_io.specs.Causes.{Rose};
-ghost use Rattle.clr_rules.specs.Rules.{free_weeks};
 ghost use Rattle.clr_season.specs.Season.{IsSeason};
-ghost use Rattle.clr_season.specs.Reads.{Gives, are_plain, season_in};
+ghost use Rattle.clr_season.specs.Reads.{Gives, season_in};
 
-use crate::files::{folder_demand, folder_ladder, folder_limits, folder_stock};
+use crate::files::{folder_calendar, folder_demand, folder_ladder, folder_limits, folder_stock};
 use crate::whole::season_of_parts;
 use crate::season::Season;
 use clr_io::Shelf;
-use clr_rules::Limits;
 use clr_text::Why;
 use std::alloc::Global;
 use thiserror::Error;
@@ -52,30 +50,22 @@ pub enum SeasonError {
     /// The tables of the season would have so many cells, and that is more than 16,000,000.
     #[error("{found} cells are too many")]
     Cells { found: u64 },
-    /// The rules are other than those where the fields `markdowns`, `spacing`, `first_cut` and `calendar` are absent.
-    #[error("not yet planned")]
-    NotYet,
     /// Memory was wanting.
     #[error("out of memory")]
     Memory,
 }
 
-fn is_plain(limits: Limits) -> bool
-    ensures { result ≡ are_plain limits }
-{
-    limits.markdowns == 12 && limits.spacing == 1 && limits.first_cut == 100 && !limits.calendar
-}
-
-/// The season of a folder: of its files rules.json, ladder.csv, stock.csv and demand.csv, in this order. Each is held,
-/// not too long and read before the next is opened. The season's version is that of rules.json: from version 2 on
-/// stock.csv has a cost of relabelling, and in version 3 the weights are scaled to the base.
+/// The season of a folder: of its files rules.json, calendar.csv (where the rules say that there is one), ladder.csv,
+/// stock.csv and demand.csv, in this order. Each is held, not too long and read before the next is opened. The season's
+/// version is that of rules.json: from version 2 on stock.csv has a cost of relabelling, and in version 3 the weights are
+/// scaled to the base.
 ///
 /// # Errors
 ///
 /// The first thing that stands against the season: file by file `Read` (only where the shelf's faults rose), `Absent`,
 /// `TooLong` (only where more than 33,554,432 bytes were taken) and `Refused`, the first refusal of the file's content;
-/// behind rules.json `NotYet`; and behind all files `Cells`. `Memory` may come anywhere. Whatever comes, the shelf
-/// stands where its last call left it.
+/// and behind all files `Cells`. `Memory` may come anywhere. Whatever comes, the shelf stands where its last call left
+/// it.
 #[tactic(auto, unfolding(crate::specs::Reads::season_in))]
 pub fn read_season<H: Shelf>(
     alloc: Global,
@@ -83,7 +73,6 @@ pub fn read_season<H: Shelf>(
     folder: &str,
 ) -> Result<Season, SeasonError>
     ensures gives { IfSome (H.files shelf.old) (λ files. Gives (λ s. s) result (season_in files folder.now)) }
-    ensures plain { IfOk result (λ s. s.rules.calendar ≡ free_weeks s.rules.weeks) }
     ensures facts { IfOk result (λ s. IsSeason s) }
 
     // Over every shelf, whether it tells its files or not.
@@ -94,11 +83,9 @@ pub fn read_season<H: Shelf>(
     ensures later { H.faults shelf.old ≤ H.faults shelf.new }
 {
     let limits = folder_limits(alloc, shelf, folder)?;
-    if !is_plain(limits) {
-        return Err(SeasonError::NotYet);
-    }
+    let calendar = folder_calendar(alloc, shelf, folder, limits)?;
     let ladder = folder_ladder(alloc, shelf, folder)?;
     let stock = folder_stock(alloc, shelf, folder, limits)?;
     let demand = folder_demand(alloc, shelf, folder, limits, &ladder, &stock)?;
-    season_of_parts(alloc, limits, &ladder, stock, demand)
+    season_of_parts(alloc, limits, calendar, &ladder, stock, demand)
 }

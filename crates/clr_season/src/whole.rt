@@ -2,7 +2,7 @@
 ghost use Rattle.std.specs.Prelude.{◌≡◌, ◌≤◌, IfOk, IsErrOf, length};
 ghost use Rattle.clr_season.specs.declared.reads.File.{File};
 ghost use Rattle.clr_rules.specs.Limits.{AreLimits};
-ghost use Rattle.clr_rules.specs.Rules.{IsRulebook, free_weeks, rulebook_of};
+ghost use Rattle.clr_rules.specs.Rules.{IsRulebook, rulebook_of};
 ghost use Rattle.clr_stock.specs.Stock.{AreStores};
 ghost use Rattle.clr_demand.specs.Weights.{AreWeights};
 ghost use Rattle.clr_season.specs.Reads.{Gives, season_within};
@@ -11,19 +11,24 @@ ghost use Rattle.clr_season.specs.Season.{cells, stock_cells, store_cells};
 use crate::reads::SeasonError;
 use crate::season::Season;
 use clr_demand::Demand;
-use clr_rules::{Limits, Rules, free_calendar};
+use clr_rules::{Calendar, Limits, Rules};
 use clr_stock::{Ladder, Stock};
 use std::alloc::{AllocError, Global};
 
 const MOST_CELLS: u64 = 16_000_000;
 
-// The rules of these limits and this ladder, without a calendar.
-fn free_rules(alloc: Global, limits: Limits, ladder: &Ladder) -> Result<Rules, AllocError>
-    requires { AreLimits limits }
-    ensures rules { IfOk result (λ r. r ≡ rulebook_of limits (free_weeks limits.weeks) ladder.now) }
+// The rules of these limits, this calendar and this ladder.
+fn season_rules(
+    alloc: Global,
+    limits: Limits,
+    calendar: Calendar,
+    ladder: &Ladder,
+) -> Result<Rules, AllocError>
+    requires limits { AreLimits limits }
+    requires calendar { length calendar ≡ limits.weeks }
+    ensures rules { IfOk result (λ r. r ≡ rulebook_of limits calendar ladder.now) }
     ensures facts { IfOk result (λ r. IsRulebook r) }
 {
-    let calendar = free_calendar(alloc, limits.weeks)?;
     Rules::new(alloc, limits, calendar, ladder.prices())
 }
 
@@ -63,20 +68,21 @@ fn all_cells(rules: &Rules, stock: &Stock) -> u64
 pub(crate) fn season_of_parts(
     alloc: Global,
     limits: Limits,
+    calendar: Calendar,
     ladder: &Ladder,
     stock: Stock,
     demand: Demand,
 ) -> Result<Season, SeasonError>
     requires limits { AreLimits limits }
+    requires calendar { length calendar ≡ limits.weeks }
     requires some { 1 ≤ length stock }
     requires stores { AreStores stock }
     requires weights { AreWeights (length stock) limits.weeks (length ladder.now) limits.base demand }
-    ensures gives { Gives (λ s. s) result (season_within limits ladder.now stock demand) }
+    ensures gives { Gives (λ s. s) result (season_within limits calendar ladder.now stock demand) }
     ensures no_read { (f : File) → IsErrOf result (SeasonError.Read f) → ⊥ }
     ensures no_length { (f : File) → IsErrOf result (SeasonError.TooLong f) → ⊥ }
-    ensures plain { IfOk result (λ s. s.rules.calendar ≡ free_weeks s.rules.weeks) }
 {
-    let Ok(rules) = free_rules(alloc, limits, ladder) else {
+    let Ok(rules) = season_rules(alloc, limits, calendar, ladder) else {
         return Err(SeasonError::Memory);
     };
     let found = all_cells(&rules, &stock);

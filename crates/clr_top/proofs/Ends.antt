@@ -1,10 +1,13 @@
 -- How runs end.
-use Rattle.std.proofs.Common.{◌≡◌, ◌≤◌, ◌<◌, inl, inr, refl, sym, ◌∙◌, ap, ℕ, List, Some, None}
-use Rattle.std.specs.Prelude.{◌⊎◌, IfSome, IsOk, Option, Result, Ok, Err}
+use Rattle.std.proofs.Common.{◌≡◌, ◌≤◌, ◌<◌, inl, inr, refl, sym, ◌∙◌, ap, ℕ, List, [], Some, None, Bool, true, false}
+use Rattle.std.specs.Prelude.{◌⊎◌, IfSome, IsOk, IsTrue, Option, Result, Ok, Err}
 use Rattle.clr_io.specs.Causes.{Rose}
 use Rattle.clr_io.specs.Files.{Files}
 use Rattle.clr_words.specs.Asked.{Ask, asked_of}
-use Rattle.clr_season.specs.Reads.{Gives, Stop, absent, most_bytes, not_yet, refused, season_in, too_long, too_many_cells}
+use Rattle.clr_rules.specs.FirstPath.{NoPathObeys}
+use Rattle.clr_rules.specs.Rules.{is_live, obeys}
+use Rattle.clr_rules.proofs.FirstPaths.{some_or_none_obeys_lem}
+use Rattle.clr_season.specs.Reads.{Gives, Stop, absent, most_bytes, refused, season_in, too_long, too_many_cells}
 use Rattle.clr_season.specs.Season.{Season}
 use Rattle.clr_season.specs.declared.reads.File.{File}
 use Rattle.clr_season.specs.declared.reads.SeasonError.{SeasonError}
@@ -18,11 +21,11 @@ use Rattle.clr_top.specs.declared.ending.Word.{Word}
 use Rattle.clr_top.specs.declared.ending.Word.TheVariants as w
 use Rattle.clr_top.specs.declared.ending.Status.{Status}
 use Rattle.clr_top.specs.declared.ending.Status.TheVariants as s
-use Rattle.clr_top.specs.Runs.{ByFiles, Caused, Exactly, asked_plan, doc_of, ending_by, plan_asked, planned, season_asked, season_for, status_of, stopped, unless_stopped}
+use Rattle.clr_top.specs.Runs.{ByFiles, Caused, Exactly, NoneObeys, Reports, asked_plan, ending_by, if_some_obeys, planned, status_of, stopped, unless_stopped}
 
 -- ---- by an error of the season
 
-stopped-so : (given : Result Season Stop) (stop : Stop) → given ≡ Err stop → unless_stopped given ≡ Err (stopped stop)
+stopped-so : (given : Result Season Stop) (stop : Stop) → given ≡ Err stop → if_some_obeys (unless_stopped given) ≡ Err (stopped stop)
 stopped-so given stop is = rw is refl
 
 by-files :
@@ -43,7 +46,6 @@ season-caused files words ask taken shelf_old shelf_new out_old out_new (e.TooLo
 season-caused files words ask taken shelf_old shelf_new out_old out_new (e.Refused file row column why) asked given rose long =
     by-files files words ask (refused file (record { row = row; column = column; why = why })) asked given
 season-caused files words ask taken shelf_old shelf_new out_old out_new (e.Cells found) asked given rose long = by-files files words ask (too_many_cells found) asked given
-season-caused files words ask taken shelf_old shelf_new out_old out_new e.NotYet asked given rose long = by-files files words ask not_yet asked given
 season-caused files words ask taken shelf_old shelf_new out_old out_new e.Memory asked given rose long = tt
 
 -- ---- the statuses
@@ -103,6 +105,19 @@ no-words words none = rw none refl
 files-end : (held : Files) (words : List (List ℕ)) (ending : Ending) → ByFiles (Some held) words ending → planned held words ≡ Err ending
 files-end held words ending (ask, asked, is) = rw asked is
 
+none-obeys : (given : Result Season Stop) (season : Season) → given ≡ Ok season → NoPathObeys season.rules → if_some_obeys (unless_stopped given) ≡ Err (By NoPath)
+none-obeys given season is none = let dead : is_live season.rules [] ≡ false = (some_or_none_obeys_lem season.rules).none.1 none in rw (is, dead) refl
+
+no-path : (held : Files) (words : List (List ℕ)) → NoneObeys (Some held) words → planned held words ≡ Err (By NoPath)
+no-path held words (ask, season, asked, is, facts, none) = rw asked (none-obeys (season_in held ask.folder) season is none)
+
+some-obeys : (given : Result Season Stop) (season : Season) (path : List ℕ) → given ≡ Ok season → IsTrue (obeys season.rules path) → if_some_obeys (unless_stopped given) ≡ Ok season
+some-obeys given season path is keeps = let lives : is_live season.rules [] ≡ true = (some_or_none_obeys_lem season.rules).some.1 (path, keeps) in rw (is, lives) refl
+
+-- where a report is made, a season is planned
+pub planned-so : (held : Files) (words : List (List ℕ)) (Holds : List ℕ → Type 0) → Reports (Some held) words Holds → IsOk (planned held words)
+planned-so held words Holds (ask, season, asked, is, facts, path, low, high, plan, holds) = rw (asked, some-obeys (season_in held ask.folder) season path is plan.first.obeying) tt
+
 planned-fails : (given : Result Season Ending) → IsOk given → Exactly s.WriteFault given
 planned-fails (Ok season) is = inr (inl refl)
 planned-fails (Err ending) is = cc
@@ -121,7 +136,7 @@ exactly-caused held words taken shelf_old shelf_new out_old out_new (By Words) c
     exactly-of s.Words (planned held words) (By Words) (by-words held words (By Words) (no-words words caused)) refl
 exactly-caused held words taken shelf_old shelf_new out_old out_new (By (Refused doc row column why)) caused =
     exactly-of s.Refused (planned held words) (By (Refused doc row column why)) (files-end held words (By (Refused doc row column why)) caused) refl
-exactly-caused held words taken shelf_old shelf_new out_old out_new (By NoPath) caused = exactly-of s.NoPath (planned held words) (By NoPath) (files-end held words (By NoPath) caused) refl
+exactly-caused held words taken shelf_old shelf_new out_old out_new (By NoPath) caused = exactly-of s.NoPath (planned held words) (By NoPath) (no-path held words caused) refl
 exactly-caused held words taken shelf_old shelf_new out_old out_new (By (ReadFault doc)) caused = reading-fails (planned held words)
 exactly-caused held words taken shelf_old shelf_new out_old out_new (By (Absent doc)) caused = exactly-of s.Absent (planned held words) (By (Absent doc)) (files-end held words (By (Absent doc)) caused) refl
 exactly-caused held words taken shelf_old shelf_new out_old out_new (By (WriteFault doc)) caused = planned-fails (planned held words) caused.2
@@ -130,7 +145,10 @@ exactly-caused held words taken shelf_old shelf_new out_old out_new (By (Cells f
 exactly-caused held words taken shelf_old shelf_new out_old out_new (By Memory) caused = memory-wanting (planned held words)
 exactly-caused held words taken shelf_old shelf_new out_old out_new (NotYet w.Job) caused = exactly-of s.NotYet (planned held words) (NotYet w.Job) (by-words held words (NotYet w.Job) caused) refl
 exactly-caused held words taken shelf_old shelf_new out_old out_new (NotYet w.Cert) caused = exactly-of s.NotYet (planned held words) (NotYet w.Cert) (by-words held words (NotYet w.Cert) caused) refl
-exactly-caused held words taken shelf_old shelf_new out_old out_new (NotYet w.Rules) caused = exactly-of s.NotYet (planned held words) (NotYet w.Rules) (files-end held words (NotYet w.Rules) caused) refl
+-- a whole report
+pub exactly-reported : (given : Result Season Ending) → IsOk given → Exactly s.Ok given
+exactly-reported (Ok season) is = inl refl
+exactly-reported (Err ending) is = cc
 
 -- ---- completeness
 

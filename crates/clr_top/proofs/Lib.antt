@@ -1,3 +1,2 @@
-pub mod Opening
-pub mod Reporting
 pub mod Ends
+pub mod Reporting

@@ -1,5 +1,5 @@
 -- What a run is asked, what it reports, and why it ends without a report.
-use Rattle.std.specs.Prelude.{◌≡◌, ◌⊎◌, ◌++◌, ◌∷◌, [], ℕ, ℤ, ◌≤◌, ◌<◌, IsTrue, IfSome, IsOk, List, codes, length, take, Option, Some, None, Result, Ok, Err, if◌then◌else◌}
+use Rattle.std.specs.Prelude.{◌≡◌, ◌⊎◌, ◌++◌, ◌∷◌, [], ℕ, ℤ, ◌≤◌, ◌<◌, IfSome, IsOk, List, codes, length, take, Option, Some, None, Result, Ok, Err, if◌then◌else◌}
 use Rattle.std.specs.Str.{bytes_eq}
 use Rattle.std.specs.Io.KnownBytes.{Appends}
 use Rattle.clr_io.specs.Causes.{Rose}
@@ -8,9 +8,10 @@ use Rattle.clr_words.specs.Asked.{Ask, ask_of, asked_of}
 use Rattle.clr_words.specs.declared.Asked.{Asked}
 use Rattle.clr_words.specs.declared.Job.{Job}
 use Rattle.clr_words.specs.declared.Job.TheVariants as j
-use Rattle.clr_rules.specs.Rules.{obeys, opening_path}
+use Rattle.clr_rules.specs.FirstPath.{IsFirstObeying, NoPathObeys}
+use Rattle.clr_rules.specs.Rules.{is_live}
 use Rattle.clr_season.specs.Season.{Season, IsSeason}
-use Rattle.clr_season.specs.Reads.{ReachesFile, Stop, absent, most_bytes, not_yet, refused, season_in, too_long, too_many_cells}
+use Rattle.clr_season.specs.Reads.{ReachesFile, Stop, absent, most_bytes, refused, season_in, too_long, too_many_cells}
 use Rattle.clr_season.specs.declared.reads.File.{File}
 use Rattle.clr_season.specs.declared.reads.File.TheVariants as f
 use Rattle.clr_season.specs.declared.reads.SeasonError.{SeasonError}
@@ -63,7 +64,6 @@ status_of (NotYet word) = s.NotYet
 abbrev pub word_text : Word → List ℕ
 word_text w.Job = codes "job"
 word_text w.Cert = codes "cert"
-word_text w.Rules = codes "rules"
 
 -- the text of the note
 abbrev pub note_of : Ending → List ℕ
@@ -107,7 +107,6 @@ stopped (absent file) = By (Absent (doc_of file))
 stopped (too_long file) = By (TooLong (doc_of file) most_bytes)
 stopped (refused file refusal) = By (Refused (doc_of file) refusal.row refusal.column refusal.why)
 stopped (too_many_cells found) = By (Cells found)
-stopped not_yet = NotYet w.Rules
 
 abbrev pub unless_stopped : Result Season Stop → Result Season Ending
 unless_stopped (Ok season) = Ok season
@@ -120,12 +119,16 @@ ending_by (e.Absent file) = By (Absent (doc_of file))
 ending_by (e.TooLong file) = By (TooLong (doc_of file) most_bytes)
 ending_by (e.Refused file row column why) = By (Refused (doc_of file) row column why)
 ending_by (e.Cells found) = By (Cells found)
-ending_by e.NotYet = NotYet w.Rules
 ending_by e.Memory = By Memory
 
--- the season of the folder that is asked, or how the run ends by its files
+-- a season of which some path obeys
+abbrev pub if_some_obeys : Result Season Ending → Result Season Ending
+if_some_obeys (Ok season) = if is_live season.rules [] then Ok season else Err (By NoPath)
+if_some_obeys (Err ending) = Err ending
+
+-- the season of the folder that is asked, of which some path obeys, or how the run ends by its files
 abbrev pub season_asked : Files → Ask → Result Season Ending
-season_asked held ask = unless_stopped (season_in held ask.folder)
+season_asked held ask = if_some_obeys (unless_stopped (season_in held ask.folder))
 
 abbrev pub season_for : Files → Result Ask Ending → Result Season Ending
 season_for held (Ok ask) = season_asked held ask
@@ -137,24 +140,20 @@ planned held words = season_for held (asked_plan words)
 
 -- ---- what is reported
 
--- A path that stays on the first rung and obeys, with its low and its high value.
+-- The first path that obeys, in the order of lists, with its low and its high value.
 pub record IsPlan (season : Season) (path : List ℕ) (low high : ℤ) : Type 0 where
-  pub stays : path ≡ opening_path season.rules
-  pub keeps : IsTrue (obeys season.rules path)
+  pub first : IsFirstObeying season.rules path
   pub least : low ≡ path_low season path
   pub most : high ≡ path_high season path
 
--- the report of the path that stays on the first rung
-unfoldable pub first_report : Season → List ℕ
-first_report season =
-    plan_text season (opening_path season.rules) (path_low season (opening_path season.rules)) (path_high season (opening_path season.rules))
+-- something holds of the text of the report on a season's plan
+abbrev pub OfPlan : Season → (List ℕ → Type 0) → Type 0
+OfPlan season Holds = (path : List ℕ) × (low : ℤ) × (high : ℤ) × IsPlan season path low high × Holds (plan_text season path low high)
 
--- A plan is asked, its season has one, and something holds of the text of its report.
+-- A plan is asked, its folder reads to a season, and something holds of the text of the report on its plan.
 abbrev pub Reports : Option Files → List (List ℕ) → (List ℕ → Type 0) → Type 0
 Reports files words Holds =
-    (ask : Ask) × (season : Season) × (path : List ℕ) × (low : ℤ) × (high : ℤ)
-    × (asked_plan words ≡ Ok ask) × IfSome files (λ held. planned held words ≡ Ok season) × IsSeason season
-    × IsPlan season path low high × Holds (plan_text season path low high)
+    (ask : Ask) × (season : Season) × (asked_plan words ≡ Ok ask) × IfSome files (λ held. season_in held ask.folder ≡ Ok season) × IsSeason season × OfPlan season Holds
 
 -- a front of the bytes was added
 abbrev pub AddsFront : Option (List ℕ) → Option (List ℕ) → List ℕ → Type 0
@@ -167,6 +166,11 @@ abbrev pub ReachesDoc : Option Files → List (List ℕ) → Doc → Type 0
 ReachesDoc files words doc =
     (ask : Ask) × (file : File) × (asked_plan words ≡ Ok ask) × (doc ≡ doc_of file) × IfSome files (λ held. ReachesFile file (season_in held ask.folder))
 
+-- A plan is asked, its folder reads to a season, and no path of it obeys.
+abbrev pub NoneObeys : Option Files → List (List ℕ) → Type 0
+NoneObeys files words =
+    (ask : Ask) × (season : Season) × (asked_plan words ≡ Ok ask) × IfSome files (λ held. season_in held ask.folder ≡ Ok season) × IsSeason season × NoPathObeys season.rules
+
 -- A plan is asked, and the run ends so by its files.
 abbrev pub ByFiles : Option Files → List (List ℕ) → Ending → Type 0
 ByFiles files words ending = (ask : Ask) × (asked_plan words ≡ Ok ask) × IfSome files (λ held. season_asked held ask ≡ Err ending)
@@ -176,7 +180,7 @@ ByFiles files words ending = (ask : Ask) × (asked_plan words ≡ Ok ask) × IfS
 abbrev pub CausedBy : Option Files → List (List ℕ) → ℕ → ℕ → ℕ → ℕ → ℕ → Cause → Type 0
 CausedBy files words taken shelf_old shelf_new out_old out_new Words = asked_of words ≡ None
 CausedBy files words taken shelf_old shelf_new out_old out_new (Refused doc row column why) = ByFiles files words (By (Refused doc row column why))
-CausedBy files words taken shelf_old shelf_new out_old out_new NoPath = ByFiles files words (By NoPath)
+CausedBy files words taken shelf_old shelf_new out_old out_new NoPath = NoneObeys files words
 CausedBy files words taken shelf_old shelf_new out_old out_new (ReadFault doc) = Rose shelf_old shelf_new × ReachesDoc files words doc
 CausedBy files words taken shelf_old shelf_new out_old out_new (Absent doc) = ByFiles files words (By (Absent doc))
 CausedBy files words taken shelf_old shelf_new out_old out_new (WriteFault doc) = (doc ≡ d.Report) × Rose out_old out_new × IfSome files (λ held. IsOk (planned held words))
@@ -187,7 +191,6 @@ CausedBy files words taken shelf_old shelf_new out_old out_new Memory = Unit {0}
 abbrev pub NotYetBy : Option Files → List (List ℕ) → Word → Type 0
 NotYetBy files words w.Job = asked_plan words ≡ Err (NotYet w.Job)
 NotYetBy files words w.Cert = asked_plan words ≡ Err (NotYet w.Cert)
-NotYetBy files words w.Rules = ByFiles files words (NotYet w.Rules)
 
 abbrev pub Caused : Option Files → List (List ℕ) → ℕ → ℕ → ℕ → ℕ → ℕ → Ending → Type 0
 Caused files words taken shelf_old shelf_new out_old out_new (By cause) = CausedBy files words taken shelf_old shelf_new out_old out_new cause

@@ -58,8 +58,6 @@ pub enum Word {
     Job,
     /// A certificate.
     Cert,
-    /// Rules other than those that stand where their fields are absent.
-    Rules,
 }
 
 /// Why a run ends without its whole report.
@@ -69,6 +67,13 @@ pub enum Ending {
     By { cause: Cause },
     /// By what can't be done yet.
     NotYet { word: Word },
+}
+
+/// The end by a cause that the notes tell.
+pub(crate) fn by(cause: Cause) -> Ending
+    ensures { result ≡ Ending.By cause }
+{
+    Ending::By { cause }
 }
 
 fn status_by(cause: Cause) -> Status
@@ -116,7 +121,6 @@ fn not_yet_text(word: Word) -> &'static str
     match word {
         Word::Job => "not yet: job\n",
         Word::Cert => "not yet: cert\n",
-        Word::Rules => "not yet: rules\n",
     }
 }
 

@@ -1,23 +1,31 @@
 // The plan of a season.
-ghost use Rattle.std.specs.Prelude.{◌≡◌, IfOk};
+ghost use Rattle.std.specs.Prelude.{◌≡◌, ◌⊎◌, ◌<◌, IfOk, IsErrOf, length};
 ghost use Rattle.clr_average.specs.Average.{IsWithin};
 ghost use Rattle.clr_model.specs.PathValue.{path_total};
-ghost use Rattle.clr_rules.specs.Rules.{IsPath, opening_path};
-ghost use Rattle.clr_top.specs.Runs.{first_report};
+ghost use Rattle.clr_report.specs.declared.note.Cause.{Cause};
+ghost use Rattle.clr_rules.specs.FirstPath.{IsFirstObeying, NoPathObeys};
+ghost use Rattle.clr_rules.specs.LiveSummaries.{live_pairs};
+ghost use Rattle.clr_rules.specs.Rules.{IsPath};
+ghost use Rattle.clr_top.specs.declared.ending.Ending.{Ending};
+ghost use Rattle.clr_top.specs.Runs.{OfPlan};
 
+use crate::ending::{Ending, by};
 use clr_model::Path;
 use clr_num::{Direction, Down, Up};
 use clr_path::PathTable;
-use clr_report::{PlanFacts, plan_text};
+use clr_report::{Cause, PlanFacts, plan_text};
+use clr_rules::{Live, first_path};
 use clr_season::Season;
 use std::alloc::{AllocError, Global};
 
-// The path that stays on the first rung.
-fn opening(alloc: Global, season: &Season) -> Result<Path, AllocError>
-    ensures path { IfOk result (λ p. p ≡ opening_path season.now.rules) }
-    ensures whole { IfOk result (λ p. IsPath season.now.rules p) }
+// The first path that obeys, where some path does.
+fn first_of(alloc: Global, season: &Season, live: &Live) -> Result<Path, AllocError>
+    requires live { live.now ≡ live_pairs season.now.rules }
+    requires some { 0 < length live.now }
+    ensures first { IfOk result (λ p. IsFirstObeying season.now.rules p) }
+    ensures path { IfOk result (λ p. IsPath season.now.rules p) }
 {
-    let rungs = vec![in alloc; 1u32; season.weeks() as usize]?;
+    let rungs = first_path(alloc, season.rules(), live)?;
     let path = Path::new(alloc, season, &rungs)?;
     Ok(path)
 }
@@ -40,14 +48,33 @@ fn plan_facts(path: Path, low: i128, high: i128) -> PlanFacts
     PlanFacts { path, low, high }
 }
 
-/// The report of the path that stays on the first rung.
-pub(crate) fn first_plan(alloc: Global, season: &Season) -> Result<Vec<u8>, AllocError>
-    ensures { IfOk result (λ text. text.items ≡ first_report season.now) }
+// The report of the first path that obeys, where some path does.
+fn first_plan(alloc: Global, season: &Season, live: &Live) -> Result<Vec<u8>, AllocError>
+    requires live { live.now ≡ live_pairs season.now.rules }
+    requires some { 0 < length live.now }
+    ensures { IfOk result (λ text. OfPlan season.now (λ told. text.items ≡ told)) }
 {
-    let path = opening(alloc, season)?;
+    let path = first_of(alloc, season, live)?;
     let low = total::<Down>(alloc, season, &path)?;
     let high = total::<Up>(alloc, season, &path)?;
     let facts = plan_facts(path, low, high);
     let text = plan_text(alloc, season, &facts)?;
     Ok(text)
+}
+
+/// The report of a season's plan, or that no path of it obeys.
+pub(crate) fn plan_season(alloc: Global, season: &Season) -> Result<Vec<u8>, Ending>
+    ensures text { IfOk result (λ text. OfPlan season.now (λ told. text.items ≡ told)) }
+    ensures ends { (ending : Ending) → IsErrOf result ending → (ending ≡ Ending.By Cause.Memory) ⊎ ((ending ≡ Ending.By Cause.NoPath) × NoPathObeys season.now.rules) }
+{
+    let Ok(live) = Live::build(alloc, season.rules()) else {
+        return Err(by(Cause::Memory));
+    };
+    if !live.any() {
+        return Err(by(Cause::NoPath));
+    }
+    match first_plan(alloc, season, &live) {
+        Ok(text) => Ok(text),
+        Err(_) => Err(by(Cause::Memory)),
+    }
 }

@@ -1,30 +1,22 @@
 //! The program's one call: it does what the words ask, over any shelf, desk and sinks.
 
-ghost use Rattle.std.specs.Prelude.{◌≡◌, ◌≢◌, ◌⊎◌, ◌≤◌, ◌<◌, ℕ, List, IfOk, IfSome, IsErrOf, OnOk, IsOk, Ok, Some, None, map, string_bytes};
+ghost use Rattle.std.specs.Prelude.{◌≡◌, ◌≢◌, ◌⊎◌, ◌≤◌, ℕ, IfOk, IfSome, IsErrOf, IsOk, Ok, Some, None, map, string_bytes};
 ghost use Rattle.std.specs.Io.KnownBytes.{Appends};
 ghost use Rattle.clr_io.specs.Causes.{Rose};
 ghost use Rattle.clr_io.specs.Files.{Files};
-ghost use Rattle.clr_rules.specs.Rules.{free_weeks};
-ghost use Rattle.clr_report.specs.declared.note.Cause.{Cause};
-ghost use Rattle.clr_report.specs.declared.note.Doc.{Doc};
+ghost use Rattle.clr_season.specs.Reads.{season_in};
 ghost use Rattle.clr_season.specs.Season.{IsSeason};
-ghost use Rattle.clr_words.specs.Asked.{Ask, ask_of, asked_of};
+ghost use Rattle.clr_words.specs.Asked.{Ask, asked_of};
 ghost use Rattle.clr_top.specs.declared.ending.Ending.{Ending};
-ghost use Rattle.clr_top.specs.Runs.{AddsFront, AnswersPlan, Caused, Exactly, Notes, Reports, asked_plan, ending_by, planned, season_asked, status_of};
+ghost use Rattle.clr_top.specs.Runs.{AddsFront, AnswersPlan, Caused, Exactly, Notes, Reports, asked_plan, ending_by, planned, status_of};
 
-use crate::ending::{Ending, Status, Word, doc, status, write_note};
-use crate::plan::first_plan;
+use crate::ending::{Ending, Status, Word, by, doc, status, write_note};
+use crate::plan::plan_season;
 use clr_io::{Desk, Shelf, Sink, write_whole};
 use clr_report::{Cause, Doc};
 use clr_season::{Season, SeasonError, read_season};
 use clr_words::{Asked, Job, WordsError, read_words};
 use std::alloc::Global;
-
-fn by(cause: Cause) -> Ending
-    ensures { result ≡ Ending.By cause }
-{
-    Ending::By { cause }
-}
 
 // What the words ask, where they ask a plan without a certificate.
 #[tactic(auto, unfolding(crate::specs::Runs::asked_plan))]
@@ -69,44 +61,36 @@ fn unread(error: SeasonError) -> Ending
             why,
         }),
         SeasonError::Cells { found } => by(Cause::Cells { found }),
-        SeasonError::NotYet => Ending::NotYet { word: Word::Rules },
         SeasonError::Memory => by(Cause::Memory),
     }
 }
 
-// The season that the words ask to plan.
+// The season of the folder of which the words ask a plan.
 fn read_asked<H: Shelf>(
     alloc: Global,
     words: &[String],
     shelf: &mut H,
 ) -> Result<Season, Ending>
-    ensures season { IfOk result (λ s. (ask : Ask) × (asked_plan (map string_bytes words.now) ≡ Ok ask) × IfSome (H.files shelf.old) (λ held. planned held (map string_bytes words.now) ≡ Ok s)) }
-    ensures plain { IfOk result (λ s. s.rules.calendar ≡ free_weeks s.rules.weeks) }
+    ensures season { IfOk result (λ s. (ask : Ask) × (asked_plan (map string_bytes words.now) ≡ Ok ask) × IfSome (H.files shelf.old) (λ held. season_in held ask.folder ≡ Ok s)) }
     ensures facts { IfOk result (λ s. IsSeason s) }
     ensures caused { (ending : Ending) → IsErrOf result ending → (out_old out_new : ℕ) → Caused (H.files shelf.old) (map string_bytes words.now) (H.taken shelf.new) (H.faults shelf.old) (H.faults shelf.new) out_old out_new ending }
-    ensures write { IsErrOf result (Ending.By (Cause.WriteFault Doc.Report)) → ⊥ }
     ensures files { H.files shelf.new ≡ H.files shelf.old }
     ensures later { H.faults shelf.old ≤ H.faults shelf.new }
 {
-    let asked = read_plan_words(alloc, words)?;
+    let asked = match read_plan_words(alloc, words) {
+        Ok(asked) => asked,
+        Err(ending) => return Err(ending),
+    };
     match read_season(alloc, shelf, asked.folder.as_str()) {
         Ok(season) => Ok(season),
         Err(error) => Err(unread(error)),
     }
 }
 
-// Reads the season that the words ask for, and writes the report of its plan.
-fn work<H: Shelf, O: Sink>(
-    alloc: Global,
-    words: &[String],
-    shelf: &mut H,
-    out: &mut O,
-) -> Result<(), Ending>
-    ensures ok { OnOk result (Reports (H.files shelf.old) (map string_bytes words.now) (λ text. Appends (O.written out.old) (O.written out.new) text)) }
-    ensures caused { (ending : Ending) → IsErrOf result ending → Caused (H.files shelf.old) (map string_bytes words.now) (H.taken shelf.new) (H.faults shelf.old) (H.faults shelf.new) (O.faults out.old) (O.faults out.new) ending }
-    ensures front { IsErrOf result (Ending.By (Cause.WriteFault Doc.Report)) → Reports (H.files shelf.old) (map string_bytes words.now) (λ text. AddsFront (O.written out.old) (O.written out.new) text) }
-    ensures quiet { (ending : Ending) → IsErrOf result ending → ending ≢ Ending.By (Cause.WriteFault Doc.Report) → O.written out.new ≡ O.written out.old }
-    ensures around { O.around out.new ≡ O.around out.old }
+// The report of the plan that the words ask.
+fn report<H: Shelf>(alloc: Global, words: &[String], shelf: &mut H) -> Result<Vec<u8>, Ending>
+    ensures text { IfOk result (λ text. Reports (H.files shelf.old) (map string_bytes words.now) (λ told. text.items ≡ told)) }
+    ensures caused { (ending : Ending) → IsErrOf result ending → (out_old out_new : ℕ) → Caused (H.files shelf.old) (map string_bytes words.now) (H.taken shelf.new) (H.faults shelf.old) (H.faults shelf.new) out_old out_new ending }
     ensures files { H.files shelf.new ≡ H.files shelf.old }
     ensures later { H.faults shelf.old ≤ H.faults shelf.new }
 {
@@ -114,24 +98,32 @@ fn work<H: Shelf, O: Sink>(
         Ok(season) => season,
         Err(ending) => return Err(ending),
     };
-    let Ok(text) = first_plan(alloc, &season) else {
-        return Err(by(Cause::Memory));
-    };
-    match write_whole(out, &text) {
-        Ok(()) => Ok(()),
-        Err(_) => Err(by(Cause::WriteFault { doc: Doc::Report })),
+    match plan_season(alloc, &season) {
+        Ok(text) => Ok(text),
+        Err(ending) => Err(ending),
     }
+}
+
+// Ends a run: writes its note, and gives its status.
+fn ended<N: Sink>(note: &mut N, ending: Ending) -> Status
+    ensures status { result ≡ status_of ending }
+    ensures notes { Notes (N.written note.old) (N.written note.new) (N.faults note.old) (N.faults note.new) ending }
+    ensures around { N.around note.new ≡ N.around note.old }
+{
+    write_note(note, ending);
+    status(ending)
 }
 
 /// Does what the words ask; they are the words behind the program's name, read by `clap` as the command with the
 /// required JOB and FOLDER and the options `--steps`, `--step`, `--nodes`, `--cert` and `--seed`. `plan FOLDER` reads the
-/// season of the folder's files from the shelf and writes the first lines of the plan report of the path that stays on
-/// the first rung. The numbers of the options have no effect yet, and the desk isn't used.
+/// season of the folder's files from the shelf and writes the first lines of the plan report of the first path that
+/// obeys. The numbers of the options have no effect yet, and the desk isn't used.
 ///
 /// The order of the answers is: `Words`; `NotYet` of another job, and then of a certificate; file by file (rules.json,
-/// ladder.csv, stock.csv, demand.csv) `ReadFault`, `Absent`, `Limit` where the file is too long, and `Refused`; behind
-/// rules.json `NotYet` of other rules; behind all files `Limit` where the cells are too many; `WriteFault`. `Memory` may
-/// come anywhere before the first byte of the report is written. For each status but `Ok` one note goes to `note`.
+/// calendar.csv where the rules say that there is one, ladder.csv, stock.csv, demand.csv) `ReadFault`, `Absent`, `Limit`
+/// where the file is too long, and `Refused`; behind all files `Limit` where the cells are too many; `NoPath` where no
+/// path obeys; `WriteFault`. `Memory` may come anywhere before the first byte of the report is written. For each status
+/// but `Ok` one note goes to `note`.
 pub fn run<H: Shelf, D: Desk, O: Sink, N: Sink>(
     alloc: Global,
     words: &[String],
@@ -169,11 +161,12 @@ pub fn run<H: Shelf, D: Desk, O: Sink, N: Sink>(
         → (Rose (H.faults shelf.old) (H.faults shelf.new) → ⊥) → (Rose (O.faults out.old) (O.faults out.new) → ⊥)
         → (result ≡ Status.Ok) ⊎ (result ≡ Status.Memory) }
 {
-    match work(alloc, words, shelf, out) {
+    let text = match report(alloc, words, shelf) {
+        Ok(text) => text,
+        Err(ending) => return ended(note, ending),
+    };
+    match write_whole(out, &text) {
         Ok(()) => Status::Ok,
-        Err(ending) => {
-            write_note(note, ending);
-            status(ending)
-        }
+        Err(_) => ended(note, by(Cause::WriteFault { doc: Doc::Report })),
     }
 }
