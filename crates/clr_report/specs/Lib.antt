@@ -1,3 +1,4 @@
 pub mod Lines
 pub mod PlanText
+pub mod Columns
 pub mod NoteText

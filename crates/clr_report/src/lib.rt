@@ -1,8 +1,11 @@
 //! The texts that the program writes: reports and notes.
 #![tactic(auto)]
 
+mod columns;
 mod note;
+mod pieces;
 mod plan;
+mod refusal;
 
 pub use note::{Cause, Doc, note_text};
 pub use plan::{PlanFacts, plan_text, plan_text_determines};

@@ -1,6 +1,14 @@
 //! The notes: one line for each cause of a status other than success.
-ghost use Rattle.clr_report.specs.NoteText.{doc_text, note_text_of};
-ghost use Rattle.std.specs.Prelude.{◌≡◌, ◌+◌, ◌≤◌, ◌++◌, length, take};
+#![tactic(auto, unfolding(crate::specs::NoteText::note_words))]
+
+ghost use Rattle.clr_report.specs.Columns.{doc_text};
+ghost use Rattle.clr_report.specs.Lines.{words_joined, IsLine};
+ghost use Rattle.clr_report.specs.NoteText.{note_text_of, note_words};
+ghost use Rattle.std.specs.Prelude.{◌≡◌, ◌+◌, ◌≤◌, [], ◌∷◌, codes, decimal, length, take};
+
+use crate::pieces::{put, put_labelled_wide, put_number, put_word};
+use crate::refusal::{Place, put_refusal};
+use clr_text::Why;
 
 /// A document that the program reads or writes.
 #[derive(Clone, Copy)]
@@ -47,8 +55,26 @@ impl Doc {
 pub enum Cause {
     /// The words of the command line aren't those of a job.
     Words,
+    /// A file of the season breaks a rule of its form.
+    Refused {
+        /// The file.
+        doc: Doc,
+        /// The row, from 1 under the header; 0 where the reason has none.
+        row: u32,
+        /// The column, from 1, of rules.json the field; 0 where the reason has none.
+        column: u32,
+        /// What is wrong there.
+        why: Why,
+    },
+    /// No path obeys the rules of the season.
+    NoPath,
     /// A document could not be read.
     ReadFault {
+        /// The document.
+        doc: Doc,
+    },
+    /// A document that the job needs isn't held.
+    Absent {
         /// The document.
         doc: Doc,
     },
@@ -56,6 +82,18 @@ pub enum Cause {
     WriteFault {
         /// The document.
         doc: Doc,
+    },
+    /// A document has more bytes than its limit.
+    TooLong {
+        /// The document.
+        doc: Doc,
+        /// The limit, in bytes.
+        max: u64,
+    },
+    /// The tables of the season would have more cells than their limit.
+    Cells {
+        /// The number of cells.
+        found: u64,
     },
     /// There was not enough memory.
     Memory,
@@ -67,37 +105,75 @@ const USAGE: &[u8] =
 
 /// Writes the note of a cause to the front of the buffer, and gives its number of bytes.
 ///
-/// A note is one line with its line feed. This takes no memory.
+/// A note is one line with its line feed. Any cause has a note: a column that the document doesn't
+/// have is told by an empty name. This takes no memory.
 pub fn note_text(cause: &Cause, out: &mut [u8; 256]) -> usize
     ensures fits { result ≤ 256 }
     ensures text { take result out.new ≡ note_text_of cause.now }
+    ensures line { IsLine (take result out.new) }
 {
-    let end = match *cause {
-        Cause::Words => put(USAGE, 0, out),
-        Cause::ReadFault { doc } => put_doc(b"read fault: ", doc, out),
-        Cause::WriteFault { doc } => put_doc(b"write fault: ", doc, out),
-        Cause::Memory => put(b"memory", 0, out),
-    };
+    let end = put_cause(*cause, out);
     put(b"\n", end, out)
 }
 
-/// Writes a phrase and the name of a document to the front of the buffer, and gives where they end.
-fn put_doc(phrase: &[u8], doc: Doc, out: &mut [u8; 256]) -> usize
-    requires { length phrase.now ≤ 200 }
-    ensures end { result ≤ length phrase.now + 12 }
-    ensures text { take result out.new ≡ phrase.now ++ doc_text doc }
+/// Writes the words of a note.
+fn put_cause(cause: Cause, out: &mut [u8; 256]) -> usize
+    ensures end { result ≤ 200 }
+    ensures text { take result out.new ≡ words_joined (note_words cause) }
 {
-    let end = put(phrase, 0, out);
-    put(doc.name().as_bytes(), end, out)
+    match cause {
+        Cause::Words => put(USAGE, 0, out),
+        Cause::Refused {
+            doc,
+            row,
+            column,
+            why,
+        } => put_refused(Place { doc, row, column }, why, out),
+        Cause::NoPath => put(b"no path", 0, out),
+        Cause::ReadFault { doc } => put_doc(b"read fault:", doc, out),
+        Cause::Absent { doc } => put_doc(b"absent:", doc, out),
+        Cause::WriteFault { doc } => put_doc(b"write fault:", doc, out),
+        Cause::TooLong { doc, max } => put_too_long(doc, max, out),
+        Cause::Cells { found } => put_cells(found, out),
+        Cause::Memory => put(b"memory", 0, out),
+    }
 }
 
-/// Writes a piece of a text at its place in the buffer, and gives where it ends.
-fn put(piece: &[u8], at: usize, out: &mut [u8; 256]) -> usize
-    requires { at + length piece.now ≤ 256 }
-    ensures end { result ≡ at + length piece.now }
-    ensures text { take result out.new ≡ take at out.old ++ piece.now }
+/// Writes that a file is refused.
+fn put_refused(place: Place, why: Why, out: &mut [u8; 256]) -> usize
+    ensures end { result ≤ 200 }
+    ensures text { take result out.new ≡
+        words_joined (note_words (Cause.Refused place.doc place.row place.column why)) }
 {
-    let end = at + piece.len();
-    out[at..end].copy_from_slice(piece);
-    end
+    let end = put_doc(b"refused:", place.doc, out);
+    put_refusal(place, why, end, out)
+}
+
+/// Writes that a document is longer than its limit.
+fn put_too_long(doc: Doc, max: u64, out: &mut [u8; 256]) -> usize
+    ensures end { result ≤ 200 }
+    ensures text { take result out.new ≡ words_joined
+        (codes "limit:" ∷ doc_text doc ∷ codes "longer than" ∷ decimal max ∷ []) }
+{
+    let end = put_doc(b"limit:", doc, out);
+    put_labelled_wide(b"longer than", max, end, out)
+}
+
+/// Writes that a season has too many cells.
+fn put_cells(found: u64, out: &mut [u8; 256]) -> usize
+    ensures end { result ≤ 200 }
+    ensures text { take result out.new ≡ words_joined (codes "limit: cells" ∷ decimal found ∷ []) }
+{
+    let end = put(b"limit: cells", 0, out);
+    put_number(found, end, out)
+}
+
+/// Writes a phrase and the name of a document.
+fn put_doc(phrase: &[u8], doc: Doc, out: &mut [u8; 256]) -> usize
+    requires { length phrase.now ≤ 200 }
+    ensures end { result ≤ length phrase.now + 13 }
+    ensures text { take result out.new ≡ words_joined (phrase.now ∷ doc_text doc ∷ []) }
+{
+    let end = put(phrase, 0, out);
+    put_word(doc.name().as_bytes(), end, out)
 }
