@@ -1,11 +1,14 @@
 -- How runs end.
-use Rattle.std.proofs.Common.{◌≡◌, ◌≤◌, ◌<◌, inl, inr, refl, sym, ◌∙◌, ap, ℕ, List, [], Some, None, Bool, true, false}
-use Rattle.std.specs.Prelude.{◌⊎◌, IfSome, IsOk, IsTrue, Option, Result, Ok, Err}
+use Rattle.std.proofs.Common.{◌≡◌, ◌≤◌, ◌<◌, inl, inr, refl, sym, ◌∙◌, ap, arith, ℕ, List, [], Some, None, Bool, true, false}
+use Rattle.std.specs.Prelude.{◌⊎◌, ◌↔◌, IfSome, IsOk, IsTrue, Option, Result, Ok, Err, codes, if◌then◌else◌}
 use Rattle.clr_io.specs.Causes.{Rose}
 use Rattle.clr_io.specs.Files.{Files}
+use Rattle.std.specs.Str.{bytes_eq}
 use Rattle.clr_words.specs.Asked.{Ask, asked_of}
-use Rattle.clr_rules.specs.FirstPath.{NoPathObeys}
-use Rattle.clr_rules.specs.Rules.{is_live, obeys}
+use Rattle.clr_words.specs.declared.asked.Job.{Job}
+use Rattle.clr_words.specs.declared.asked.Job.TheVariants as j
+use Rattle.clr_rules.specs.FirstPath.{NoPathObeys, SomePathObeys}
+use Rattle.clr_rules.specs.Rules.{Rulebook, is_live, obeys}
 use Rattle.clr_rules.proofs.FirstPaths.{some_or_none_obeys_lem}
 use Rattle.clr_season.specs.Reads.{Gives, Stop, absent, most_bytes, refused, season_in, too_long, too_many_cells}
 use Rattle.clr_season.specs.Season.{Season}
@@ -14,6 +17,7 @@ use Rattle.clr_season.specs.declared.reads.SeasonError.{SeasonError}
 use Rattle.clr_season.specs.declared.reads.SeasonError.TheVariants as e
 use Rattle.clr_report.specs.declared.note.Cause.{Cause}
 use Rattle.clr_report.specs.declared.note.Cause.TheVariants.{Words, Refused, NoPath, ReadFault, Absent, WriteFault, TooLong, Cells, Memory}
+use Rattle.clr_report.specs.declared.note.Doc.{Doc}
 use Rattle.clr_report.specs.declared.note.Doc.TheVariants as d
 use Rattle.clr_top.specs.declared.ending.Ending.{Ending}
 use Rattle.clr_top.specs.declared.ending.Ending.TheVariants.{By, NotYet}
@@ -21,7 +25,7 @@ use Rattle.clr_top.specs.declared.ending.Word.{Word}
 use Rattle.clr_top.specs.declared.ending.Word.TheVariants as w
 use Rattle.clr_top.specs.declared.ending.Status.{Status}
 use Rattle.clr_top.specs.declared.ending.Status.TheVariants as s
-use Rattle.clr_top.specs.Runs.{ByFiles, Caused, Exactly, NoneObeys, Reports, asked_plan, ending_by, if_some_obeys, planned, status_of, stopped, unless_stopped}
+use Rattle.clr_top.specs.Runs.{ByFiles, Caused, Exactly, NoneObeys, Reports, asked_plan, ending_by, if_some_obeys, is_plan, plan_asked, planned, status_of, stopped, unless_stopped}
 
 -- ---- by an error of the season
 
@@ -40,7 +44,7 @@ pub season-caused :
     IfSome files (λ held. Gives {X = Season} {Y = Season} (λ s. s) (Err error) (season_in held ask.folder)) →
     ((file : File) → error ≡ e.Read file → Rose shelf_old shelf_new) → ((file : File) → error ≡ e.TooLong file → most_bytes < taken) →
     Caused files words taken shelf_old shelf_new out_old out_new (ending_by error)
-season-caused files words ask taken shelf_old shelf_new out_old out_new (e.Read file) asked given rose long = (rose file refl, ask, file, asked, refl, given)
+season-caused files words ask taken shelf_old shelf_new out_old out_new (e.Read file) asked given rose long = (rose file refl, (ask, file, asked, refl, given))
 season-caused files words ask taken shelf_old shelf_new out_old out_new (e.Absent file) asked given rose long = by-files files words ask (absent file) asked given
 season-caused files words ask taken shelf_old shelf_new out_old out_new (e.TooLong file) asked given rose long = (long file refl, by-files files words ask (too_long file) asked given)
 season-caused files words ask taken shelf_old shelf_new out_old out_new (e.Refused file row column why) asked given rose long =
@@ -48,7 +52,47 @@ season-caused files words ask taken shelf_old shelf_new out_old out_new (e.Refus
 season-caused files words ask taken shelf_old shelf_new out_old out_new (e.Cells found) asked given rose long = by-files files words ask (too_many_cells found) asked given
 season-caused files words ask taken shelf_old shelf_new out_old out_new e.Memory asked given rose long = tt
 
+-- ---- by the words
+
+by-cert : (dash : Bool) (ask : Ask) (ending : Ending) → (if dash then Ok ask else Err (NotYet w.Cert)) ≡ Err ending → (ending ≡ NotYet w.Job) ⊎ (ending ≡ NotYet w.Cert)
+by-cert true ask ending is = cc
+by-cert false ask ending is = let cert : ending ≡ NotYet w.Cert = cc in inr cert
+
+plan-ends : (job : Job) (cert : List ℕ) (ask : Ask) (ending : Ending) → is_plan job cert ask ≡ Err ending → (ending ≡ NotYet w.Job) ⊎ (ending ≡ NotYet w.Cert)
+plan-ends j.Plan cert ask ending is = by-cert (bytes_eq cert (codes "-")) ask ending is
+plan-ends j.Check cert ask ending is = let job : ending ≡ NotYet w.Job = cc in inl job
+plan-ends j.Judge cert ask ending is = let job : ending ≡ NotYet w.Job = cc in inl job
+plan-ends j.Make cert ask ending is = let job : ending ≡ NotYet w.Job = cc in inl job
+
+words-end : (files : Option Files) (words : List (List ℕ)) (taken shelf_old shelf_new out_old out_new : ℕ) (ending : Ending) → (ending ≡ NotYet w.Job) ⊎ (ending ≡ NotYet w.Cert) → asked_plan words ≡ Err ending →
+    Caused files words taken shelf_old shelf_new out_old out_new ending
+words-end files words taken shelf_old shelf_new out_old out_new ending (inl job) is = rw job (rw job at is)
+words-end files words taken shelf_old shelf_new out_old out_new ending (inr cert) is = rw cert (rw cert at is)
+
+asked-end : (files : Option Files) (words : List (List ℕ)) (taken shelf_old shelf_new out_old out_new : ℕ) (ending : Ending) (asked : Option Ask) → asked_of words ≡ asked → asked_plan words ≡ Err ending → plan_asked asked ≡ Err ending →
+    Caused files words taken shelf_old shelf_new out_old out_new ending
+asked-end files words taken shelf_old shelf_new out_old out_new ending None none is by = let words_are : ending ≡ By Words = cc in rw words_are none
+asked-end files words taken shelf_old shelf_new out_old out_new ending (Some ask) some is by =
+    words-end files words taken shelf_old shelf_new out_old out_new ending (plan-ends ask.job ask.cert ask ending by) is
+
+-- the words alone end a run, or memory was wanting
+pub words-answer : (files : Option Files) (words : List (List ℕ)) (taken shelf_old shelf_new out_old out_new : ℕ) (ending : Ending) → (ending ≡ By Memory) ⊎ (asked_plan words ≡ Err ending) →
+    Caused files words taken shelf_old shelf_new out_old out_new ending
+unfolding asked_plan
+words-answer files words taken shelf_old shelf_new out_old out_new ending (inl memory) = rw memory tt
+words-answer files words taken shelf_old shelf_new out_old out_new ending (inr is) = asked-end files words taken shelf_old shelf_new out_old out_new ending (asked_of words) refl is is
+
+-- ---- by the rules
+
+-- no path obeys where there is no live summary
+pub none-lives : (rules : Rulebook) (any : Bool) (count : ℕ) → any ≡ false → (IsTrue any ↔ 0 < count) → ((0 < count) ↔ SomePathObeys rules) → NoPathObeys rules
+none-lives rules any count none tests some = λ path keeps. let yes : IsTrue any = tests.1 (some.1 ((some_or_none_obeys_lem rules).some.1 (path, keeps))) in cc
+
 -- ---- the statuses
+
+-- what comes before the report is written ends by no fault of its sink
+pub not-written : (files : Option Files) (words : List (List ℕ)) (taken shelf_old shelf_new : ℕ) (doc : Doc) → ((out_old out_new : ℕ) → Caused files words taken shelf_old shelf_new out_old out_new (By (WriteFault doc))) → ⊥
+not-written files words taken shelf_old shelf_new doc caused = let rose : Rose 0 0 = (caused 0 0).1 in omega arith
 
 -- the status of a fault of the report is no other ending's
 pub write-ending : (files : Option Files) (words : List (List ℕ)) (taken shelf_old shelf_new out_old out_new : ℕ) (ending : Ending) → status_of ending ≡ s.WriteFault → Caused files words taken shelf_old shelf_new out_old out_new ending →
@@ -116,7 +160,12 @@ some-obeys given season path is keeps = let lives : is_live season.rules [] ≡ 
 
 -- where a report is made, a season is planned
 pub planned-so : (held : Files) (words : List (List ℕ)) (Holds : List ℕ → Type 0) → Reports (Some held) words Holds → IsOk (planned held words)
-planned-so held words Holds (ask, season, asked, is, facts, path, low, high, plan, holds) = rw (asked, some-obeys (season_in held ask.folder) season path is plan.first.obeying) tt
+planned-so held words Holds (ask, season, asked, is, facts, (path, low, high, plan, holds)) = rw (asked, some-obeys (season_in held ask.folder) season path is plan.first.obeying) refl
+
+-- the same where files are told or not
+pub planned-told : (files : Option Files) (words : List (List ℕ)) (Holds : List ℕ → Type 0) → Reports files words Holds → IfSome files (λ held. IsOk (planned held words))
+planned-told None words Holds reports = tt
+planned-told (Some held) words Holds reports = planned-so held words Holds reports
 
 planned-fails : (given : Result Season Ending) → IsOk given → Exactly s.WriteFault given
 planned-fails (Ok season) is = inr (inl refl)
@@ -149,6 +198,17 @@ exactly-caused held words taken shelf_old shelf_new out_old out_new (NotYet w.Ce
 pub exactly-reported : (given : Result Season Ending) → IsOk given → Exactly s.Ok given
 exactly-reported (Ok season) is = inl refl
 exactly-reported (Err ending) is = cc
+
+-- the same where files are told or not
+pub exactly-told :
+    (files : Option Files) (words : List (List ℕ)) (taken shelf_old shelf_new out_old out_new : ℕ) (ending : Ending) (status : Status) → status ≡ status_of ending → Caused files words taken shelf_old shelf_new out_old out_new ending →
+    IfSome files (λ held. Exactly status (planned held words))
+exactly-told None words taken shelf_old shelf_new out_old out_new ending status by caused = tt
+exactly-told (Some held) words taken shelf_old shelf_new out_old out_new ending status by caused = rw by (exactly-caused held words taken shelf_old shelf_new out_old out_new ending caused)
+
+pub exactly-ok : (files : Option Files) (words : List (List ℕ)) (Holds : List ℕ → Type 0) → Reports files words Holds → IfSome files (λ held. Exactly s.Ok (planned held words))
+exactly-ok None words Holds reports = tt
+exactly-ok (Some held) words Holds reports = exactly-reported (planned held words) (planned-so held words Holds reports)
 
 -- ---- completeness
 

@@ -5,9 +5,9 @@ use Rattle.std.specs.Io.KnownBytes.{Appends}
 use Rattle.clr_io.specs.Causes.{Rose}
 use Rattle.clr_io.specs.Files.{Files}
 use Rattle.clr_words.specs.Asked.{Ask, ask_of, asked_of}
-use Rattle.clr_words.specs.declared.Asked.{Asked}
-use Rattle.clr_words.specs.declared.Job.{Job}
-use Rattle.clr_words.specs.declared.Job.TheVariants as j
+use Rattle.clr_words.specs.declared.asked.Asked.{Asked}
+use Rattle.clr_words.specs.declared.asked.Job.{Job}
+use Rattle.clr_words.specs.declared.asked.Job.TheVariants as j
 use Rattle.clr_rules.specs.FirstPath.{IsFirstObeying, NoPathObeys}
 use Rattle.clr_rules.specs.Rules.{is_live}
 use Rattle.clr_season.specs.Season.{Season, IsSeason}

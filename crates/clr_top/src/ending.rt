@@ -93,7 +93,7 @@ fn status_by(cause: Cause) -> Status
 }
 
 /// The status by which a run ends.
-pub(crate) fn status(ending: Ending) -> Status
+pub(crate) fn ending_status(ending: Ending) -> Status
     ensures { result ≡ status_of ending }
 {
     match ending {

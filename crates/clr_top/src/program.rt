@@ -1,16 +1,18 @@
 //! The program's one call: it does what the words ask, over any shelf, desk and sinks.
 
-ghost use Rattle.std.specs.Prelude.{◌≡◌, ◌≢◌, ◌⊎◌, ◌≤◌, ℕ, IfOk, IfSome, IsErrOf, IsOk, Ok, Some, None, map, string_bytes};
+ghost use Rattle.std.specs.Prelude.{◌≡◌, ◌≢◌, ◌⊎◌, ◌≤◌, ℕ, IfOk, IfSome, IsErrOf, IsOk, OnOk, Ok, Some, None, map, string_bytes};
 ghost use Rattle.std.specs.Io.KnownBytes.{Appends};
 ghost use Rattle.clr_io.specs.Causes.{Rose};
 ghost use Rattle.clr_io.specs.Files.{Files};
+ghost use Rattle.clr_report.specs.declared.note.Cause.{Cause};
+ghost use Rattle.clr_report.specs.declared.note.Doc.{Doc};
 ghost use Rattle.clr_season.specs.Reads.{season_in};
 ghost use Rattle.clr_season.specs.Season.{IsSeason};
 ghost use Rattle.clr_words.specs.Asked.{Ask, asked_of};
 ghost use Rattle.clr_top.specs.declared.ending.Ending.{Ending};
 ghost use Rattle.clr_top.specs.Runs.{AddsFront, AnswersPlan, Caused, Exactly, Notes, Reports, asked_plan, ending_by, planned, status_of};
 
-use crate::ending::{Ending, Status, Word, by, doc, status, write_note};
+use crate::ending::{Ending, Status, Word, by, doc, ending_status, write_note};
 use crate::plan::plan_season;
 use clr_io::{Desk, Shelf, Sink, write_whole};
 use clr_report::{Cause, Doc};
@@ -104,14 +106,29 @@ fn report<H: Shelf>(alloc: Global, words: &[String], shelf: &mut H) -> Result<Ve
     }
 }
 
-// Ends a run: writes its note, and gives its status.
-fn ended<N: Sink>(note: &mut N, ending: Ending) -> Status
-    ensures status { result ≡ status_of ending }
-    ensures notes { Notes (N.written note.old) (N.written note.new) (N.faults note.old) (N.faults note.new) ending }
-    ensures around { N.around note.new ≡ N.around note.old }
+// Makes the report of the plan that the words ask, and writes it.
+fn work<H: Shelf, O: Sink>(
+    alloc: Global,
+    words: &[String],
+    shelf: &mut H,
+    out: &mut O,
+) -> Result<(), Ending>
+    ensures ok { OnOk result (Reports (H.files shelf.old) (map string_bytes words.now) (λ text. Appends (O.written out.old) (O.written out.new) text)) }
+    ensures caused { (ending : Ending) → IsErrOf result ending → Caused (H.files shelf.old) (map string_bytes words.now) (H.taken shelf.new) (H.faults shelf.old) (H.faults shelf.new) (O.faults out.old) (O.faults out.new) ending }
+    ensures front { IsErrOf result (Ending.By (Cause.WriteFault Doc.Report)) → Reports (H.files shelf.old) (map string_bytes words.now) (λ text. AddsFront (O.written out.old) (O.written out.new) text) }
+    ensures quiet { (ending : Ending) → IsErrOf result ending → ending ≢ Ending.By (Cause.WriteFault Doc.Report) → O.written out.new ≡ O.written out.old }
+    ensures around { O.around out.new ≡ O.around out.old }
+    ensures files { H.files shelf.new ≡ H.files shelf.old }
+    ensures later { H.faults shelf.old ≤ H.faults shelf.new }
 {
-    write_note(note, ending);
-    status(ending)
+    let text = match report(alloc, words, shelf) {
+        Ok(text) => text,
+        Err(ending) => return Err(ending),
+    };
+    match write_whole(out, &text) {
+        Ok(()) => Ok(()),
+        Err(_) => Err(by(Cause::WriteFault { doc: Doc::Report })),
+    }
 }
 
 /// Does what the words ask; they are the words behind the program's name, read by `clap` as the command with the
@@ -161,12 +178,11 @@ pub fn run<H: Shelf, D: Desk, O: Sink, N: Sink>(
         → (Rose (H.faults shelf.old) (H.faults shelf.new) → ⊥) → (Rose (O.faults out.old) (O.faults out.new) → ⊥)
         → (result ≡ Status.Ok) ⊎ (result ≡ Status.Memory) }
 {
-    let text = match report(alloc, words, shelf) {
-        Ok(text) => text,
-        Err(ending) => return ended(note, ending),
-    };
-    match write_whole(out, &text) {
+    match work(alloc, words, shelf, out) {
         Ok(()) => Status::Ok,
-        Err(_) => ended(note, by(Cause::WriteFault { doc: Doc::Report })),
+        Err(ending) => {
+            write_note(note, ending);
+            ending_status(ending)
+        }
     }
 }
