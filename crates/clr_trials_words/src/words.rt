@@ -10,8 +10,10 @@ fn shown(alloc: Global, words: &[&str]) -> Result<String, Fail> {
         owned.push(String::from_str(alloc, word)?)?;
     }
     let text = match read_words(alloc, &owned) {
-        Ok(asked) => format!(in alloc; "{:?} {} {} {} {} {} {}", asked.job, asked.folder, asked.steps,
-            asked.step, asked.nodes, asked.cert, asked.seed)?,
+        Ok(asked) => format!(in alloc;
+            "{:?} {} {} {} {} {} {}",
+            asked.job, asked.folder, asked.steps, asked.step, asked.nodes, asked.cert, asked.seed
+        )?,
         Err(WordsError::Faulty) => String::from_str(alloc, "faulty")?,
         Err(WordsError::Memory) => String::from_str(alloc, "memory")?,
     };
@@ -39,7 +41,17 @@ const ASKED: [(&[&str], &str); 36] = [
     (&["plan", "--steps=3", "f"], "Plan f 3 1 100000 - 1"),
     (
         &[
-            "--seed", "7", "--cert", "c", "make", "--nodes", "5", "f", "--step", "2", "--steps=3",
+            "--seed",
+            "7",
+            "--cert",
+            "c",
+            "make",
+            "--nodes",
+            "5",
+            "f",
+            "--step",
+            "2",
+            "--steps=3",
         ],
         "Make f 3 2 5 c 7",
     ),

@@ -42,7 +42,8 @@ line_of words = codes "clearance" ∷ words
 abbrev pub text_in : Text → List Row → Text
 text_in name rows = unwrap_or (first_of name rows) []
 
--- the digits of a number's value, as clap hands them to the type's own reader
+-- the digits of a number's value, without a sign in front. Of words without a fault they are digits:
+-- `HasNumbers`, below.
 abbrev pub digits_in : Text → List Row → Text
 digits_in name rows = without_leading_plus (unwrap_or (one_of name rows) [])
 

@@ -7,5 +7,7 @@
 
 mod asked;
 mod line;
+mod words;
 
-pub use asked::{Asked, Job, WordsError, read_words};
+pub use asked::{Asked, Job, WordsError};
+pub use words::read_words;

@@ -4,7 +4,7 @@ ghost use Rattle.std.specs.Str.Parse.{IsNumeral};
 ghost use Rattle.clap.specs.Words.{App, app_of, fault_of, found_of, matches_of, rows_of, rule_of, with_rule};
 ghost use Rattle.clr_words.specs.Line.{HasNumbers, clearance, digits_in, line_of, number_in, number_option, place, text_in, text_option};
 
-use crate::asked::WordsError;
+use crate::WordsError;
 use clap::builder::ValueParser;
 use clap::error::ErrorKind;
 use clap::{Arg, ArgAction, ArgMatches, Command};
@@ -66,7 +66,7 @@ fn make_command<'a>(alloc: Global) -> Result<Command<'a>, AllocError>
 }
 
 // The program's name, and then the words.
-pub fn make_line<'a>(alloc: Global, words: &'a [String]) -> Result<Vec<&'a str>, AllocError>
+pub(crate) fn make_line<'a>(alloc: Global, words: &'a [String]) -> Result<Vec<&'a str>, AllocError>
     ensures { IfOk result (λ v. map (λ s. s.now) v.items ≡ line_of (map string_bytes words.entry.now)) }
 {
     let mut line: Vec<&'a str> = Vec::new(alloc);
@@ -78,7 +78,10 @@ pub fn make_line<'a>(alloc: Global, words: &'a [String]) -> Result<Vec<&'a str>,
 }
 
 // The matches of a line.
-pub fn read_line<'a>(alloc: Global, line: &'a [&'a str]) -> Result<ArgMatches<'a>, WordsError>
+pub(crate) fn read_line<'a>(
+    alloc: Global,
+    line: &'a [&'a str],
+) -> Result<ArgMatches<'a>, WordsError>
     ensures matches { IfOk result (λ m. rows_of (found_of m) ≡ matches_of clearance (map (λ s. s.now) line.entry.now)) }
     ensures numbers { IfOk result (λ m. HasNumbers (rows_of (found_of m))) }
     ensures taken { IfOk result (λ m. fault_of clearance (map (λ s. s.now) line.entry.now) ≡ []) }
@@ -97,14 +100,14 @@ pub fn read_line<'a>(alloc: Global, line: &'a [&'a str]) -> Result<ArgMatches<'a
 }
 
 // The value of an argument, as it was written.
-pub fn text<'a>(matches: &ArgMatches<'a>, name: &str) -> &'a str
+pub(crate) fn text<'a>(matches: &ArgMatches<'a>, name: &str) -> &'a str
     ensures { result.now ≡ text_in name.now (rows_of (found_of matches.now)) }
 {
     matches.get_str(name).unwrap_or("")
 }
 
 // The number that is the value of an option.
-pub fn number(matches: &ArgMatches<'_>, name: &str) -> u64
+pub(crate) fn number(matches: &ArgMatches<'_>, name: &str) -> u64
     requires numeral { IsNumeral 10 (digits_in name.now (rows_of (found_of matches.now))) }
     requires fits { number_in name.now (rows_of (found_of matches.now)) < 2 ^ 64 }
     ensures { result ≡ number_in name.now (rows_of (found_of matches.now)) }

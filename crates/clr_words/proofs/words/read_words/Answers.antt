@@ -3,7 +3,7 @@ use Rattle.std.specs.Prelude.{Err, string_bytes}
 use Rattle.clap.specs.Words.{Text}
 use Rattle.clr_words.specs.Line.{line_of}
 use Rattle.clr_words.proofs.Unasked.{unasked}
-use Rattle.clr_words.proofs.asked.read_words.Goals as goal
+use Rattle.clr_words.proofs.words.read_words.Goals as goal
 
 pub returns-clause-answers : goal.returns-clause-answers
 returns-clause-answers c =
