@@ -8,6 +8,7 @@ use std::alloc::{AllocError, Global};
 #[derive(Clone, Copy)]
 pub(crate) struct Files<'a> {
     pub rules: &'a [u8],
+    pub calendar: &'a [u8],
     pub ladder: &'a [u8],
     pub stock: &'a [u8],
     pub demand: &'a [u8],
@@ -15,6 +16,7 @@ pub(crate) struct Files<'a> {
 
 pub(crate) const SMALLEST: Files<'static> = Files {
     rules: b"{\"weeks\":1,\"base\":4}",
+    calendar: b"",
     ladder: b"rung,price\n1,10.00\n",
     stock: b"store,units,salvage\na,1,2.00\n",
     demand: b"store,week,rung,units,weight\na,1,1,0,1\na,1,1,1,3\n",
@@ -26,6 +28,7 @@ pub(crate) const SMALLEST_REPORT: &[u8] =
 // One store, two weeks, two rungs: on the first rung nothing or one unit is asked for in each week.
 pub(crate) const TWO_WEEKS: Files<'static> = Files {
     rules: b"{\"weeks\":2,\"base\":2}",
+    calendar: b"",
     ladder: b"rung,price\n1,10.00\n2,4.00\n",
     stock: b"store,units,salvage\na,2,0\n",
     demand: b"store,week,rung,units,weight\na,1,1,0,1\na,1,1,1,1\na,2,1,0,1\na,2,1,1,1\na,1,2,0,2\na,2,2,2,2\n",
@@ -55,8 +58,9 @@ pub(crate) fn held(
     left_out: usize,
 ) -> Result<Vec<(String, Vec<u8>)>, AllocError> {
     let mut held = Vec::new(alloc);
-    let all: [(&str, &[u8]); 4] = [
+    let all: [(&str, &[u8]); 5] = [
         ("f/rules.json", files.rules),
+        ("f/calendar.csv", files.calendar),
         ("f/ladder.csv", files.ladder),
         ("f/stock.csv", files.stock),
         ("f/demand.csv", files.demand),

@@ -24,41 +24,32 @@ fn absent_files_are_told(rt: HostRuntime) -> Result<(), Fail> {
     let alloc = rt.alloc();
     let notes = [
         "absent: rules.json",
+        "absent: calendar.csv",
         "absent: ladder.csv",
         "absent: stock.csv",
         "absent: demand.csv",
     ];
+    let files = Files {
+        rules: b"{\"weeks\":1,\"base\":4,\"calendar\":true}",
+        calendar: b"week,from,to,frozen\n",
+        ..SMALLEST
+    };
     for (index, note) in notes.iter().enumerate() {
-        let answer = without(alloc, SMALLEST, index + 1)?;
+        let answer = without(alloc, files, index + 1)?;
         assert!(rt; answer.notes(Status::Absent, note), "{note}");
     }
+    // Without `calendar` in the rules there need be no calendar.
+    assert!(rt; without(alloc, SMALLEST, 2)?.reports(SMALLEST_REPORT));
     // What stands before an absent file is judged first, and what stands behind it is not.
     let broken = Files {
         ladder: b"",
         demand: b"",
         ..SMALLEST
     };
-    let before = without(alloc, broken, 3)?;
+    let before = without(alloc, broken, 4)?;
     assert!(rt; before.notes(Status::Refused, "refused: ladder.csv header"));
     let behind = without(alloc, broken, 1)?;
     assert!(rt; behind.notes(Status::Absent, "absent: rules.json"));
-    Ok(())
-}
-
-#[test]
-fn other_rules_are_not_planned_yet(rt: HostRuntime) -> Result<(), Fail> {
-    let alloc = rt.alloc();
-    let others: [&[u8]; 4] = [
-        b"{\"weeks\":1,\"base\":4,\"markdowns\":11}",
-        b"{\"weeks\":1,\"base\":4,\"spacing\":2}",
-        b"{\"weeks\":1,\"base\":4,\"first_cut\":99}",
-        b"{\"weeks\":1,\"base\":4,\"calendar\":true}",
-    ];
-    for (index, rules) in others.iter().enumerate() {
-        // The rules come before the other files.
-        let answer = without(alloc, Files { rules, ..SMALLEST }, 2)?;
-        assert!(rt; answer.notes(Status::NotYet, "not yet: rules"), "{index}");
-    }
     Ok(())
 }
 
@@ -143,6 +134,7 @@ fn cells_are_counted(rt: HostRuntime) -> Result<(), Fail> {
             ladder,
             stock,
             demand: &demand,
+            ..SMALLEST
         };
         let answer = planned(alloc, files)?;
         assert!(rt; answer.notes(Status::Limit, "limit: cells 16004304") != fits);

@@ -11,6 +11,8 @@ mod cases;
 #[cfg(test)]
 mod faults;
 #[cfg(test)]
+mod paths;
+#[cfg(test)]
 mod refusals;
 #[cfg(test)]
 mod seasons;

@@ -114,6 +114,57 @@ const RULES: [(&[u8], &str); 27] = [
     ),
 ];
 
+const CALENDARS: [(&[u8], &str); 12] = [
+    (
+        b"",
+        "refused: calendar.csv header",
+    ),
+    (
+        b"week,from,to\n",
+        "refused: calendar.csv header",
+    ),
+    (
+        b"week,from,to,frozen\n1,1,12\n",
+        "refused: calendar.csv row 1 fields",
+    ),
+    (
+        b"week,from,to,frozen\n2,1,12,0\n",
+        "refused: calendar.csv row 1 column week range",
+    ),
+    (
+        b"week,from,to,frozen\nw,1,12,0\n",
+        "refused: calendar.csv row 1 column week number",
+    ),
+    (
+        b"week,from,to,frozen\n1,0,12,0\n",
+        "refused: calendar.csv row 1 column from range",
+    ),
+    (
+        b"week,from,to,frozen\n1,1,13,0\n",
+        "refused: calendar.csv row 1 column to range",
+    ),
+    (
+        b"week,from,to,frozen\n1,3,2,0\n",
+        "refused: calendar.csv row 1 column to order",
+    ),
+    (
+        b"week,from,to,frozen\n1,3,2,2\n",
+        "refused: calendar.csv row 1 column to order",
+    ),
+    (
+        b"week,from,to,frozen\n1,1,12,2\n",
+        "refused: calendar.csv row 1 column frozen range",
+    ),
+    (
+        b"week,from,to,frozen\n1,1,12,yes\n",
+        "refused: calendar.csv row 1 column frozen number",
+    ),
+    (
+        b"week,from,to,frozen\n1,1,12,0\n\n1,1,12,1\n",
+        "refused: calendar.csv row 2 repeat of row 1",
+    ),
+];
+
 const LADDERS: [(&[u8], &str); 20] = [
     (
         b"",
@@ -324,6 +375,15 @@ fn first_refusals_are_told(rt: HostRuntime) -> Result<(), Fail> {
     let alloc = rt.alloc();
     for (rules, note) in RULES {
         let answer = planned(alloc, Files { rules, ..SMALLEST })?;
+        assert!(rt; answer.notes(Status::Refused, note), "{note}");
+    }
+    for (calendar, note) in CALENDARS {
+        let files = Files {
+            rules: b"{\"weeks\":1,\"base\":4,\"calendar\":true}",
+            calendar,
+            ..SMALLEST
+        };
+        let answer = planned(alloc, files)?;
         assert!(rt; answer.notes(Status::Refused, note), "{note}");
     }
     for (ladder, note) in LADDERS {

@@ -49,6 +49,7 @@ const SEASONS: [(Files<'static>, &[u8]); 14] = [
             ladder: b"rung,price\n1,100000.00\n",
             stock: b"store,units,salvage\na,2000,0\n",
             demand: b"store,week,rung,units,weight\na,1,1,200,1\na,2,1,200,1\na,3,1,200,1\na,4,1,200,1\na,5,1,200,1\na,6,1,200,1\na,7,1,200,1\na,8,1,200,1\na,9,1,200,1\na,10,1,200,1\n",
+            ..SMALLEST
         },
         b"season 1 stores 10 weeks 1 rungs base 1\npath 1 1 1 1 1 1 1 1 1 1\nprices 100000.00 100000.00 100000.00 100000.00 100000.00 100000.00 100000.00 100000.00 100000.00 100000.00\nrevenue 200000000.00000000 200000000.00000000\n",
     ),
@@ -64,6 +65,7 @@ const SEASONS: [(Files<'static>, &[u8]); 14] = [
             ladder: b"\xEF\xBB\xBFrung,price\r\n\r\n1, 10.0 \r\n",
             stock: b"\n\"store\",units,salvage\na ,\t1, 2\n\n",
             demand: b"store,week,rung,units,weight\r\n a , 01 ,1,1,3\r\na,1,1,0, 1",
+            ..SMALLEST
         },
         SMALLEST_REPORT,
     ),
@@ -91,6 +93,7 @@ const SEASONS: [(Files<'static>, &[u8]); 14] = [
             ladder: b"rung,price\n1,10.00\n2,6.00\n",
             stock: b"store,units,salvage\na,1,0\nb,1,0\n",
             demand: b"store,week,rung,units,weight\na,1,1,1,2\na,1,2,1,2\nb,1,1,0,2\nb,1,2,1,2\n",
+            ..SMALLEST
         },
         b"season 2 stores 1 weeks 2 rungs base 2\npath 1\nprices 10.00\nrevenue 10.00000000 10.00000000\n",
     ),

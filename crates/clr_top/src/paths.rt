@@ -1,0 +1,273 @@
+// Rules and calendars: which path is printed, or that there is none; and chains of many stores.
+use crate::cases::{Files, SMALLEST, planned};
+use crate::ending::Status;
+use std::alloc::{AllocError, Global};
+use std::test::Fail;
+
+// Three weeks and three rungs: one unit more is sold in each week from the first rung that stands in this table on.
+const THREE: Files<'static> = Files {
+    rules: b"{\"weeks\":3,\"base\":1,\"calendar\":true}",
+    calendar: b"week,from,to,frozen\n",
+    ladder: b"rung,price\n1,10.00\n2,8.00\n3,5.00\n",
+    stock: b"store,units,salvage\na,3,0\n",
+    demand: b"store,week,rung,units,weight\na,1,1,1,1\na,1,2,1,1\na,1,3,1,1\na,2,1,0,1\na,2,2,1,1\na,2,3,1,1\na,3,1,0,1\na,3,2,0,1\na,3,3,1,1\n",
+};
+
+// Further rules and the rows of the calendar, with the path and the revenue.
+const PATHS: [(&[u8], &[u8], &str); 16] = [
+    (
+        b"{\"weeks\":3,\"base\":1}",
+        b"week,from,to,frozen\n",
+        "path 1 1 1\nprices 10.00 10.00 10.00\nrevenue 10.00000000 10.00000000\n",
+    ),
+    // One markdown, which must be the one of the second week.
+    (
+        b"{\"weeks\":3,\"base\":1,\"markdowns\":1,\"calendar\":true}",
+        b"week,from,to,frozen\n2,2,12,0\n3,3,12,0\n",
+        "path 1 3 3\nprices 10.00 5.00 5.00\nrevenue 20.00000000 20.00000000\n",
+    ),
+    // Two markdowns two weeks apart.
+    (
+        b"{\"weeks\":3,\"base\":1,\"spacing\":2,\"calendar\":true}",
+        b"week,from,to,frozen\n3,3,12,0\n2,2,12,0\n",
+        "path 1 3 3\nprices 10.00 5.00 5.00\nrevenue 20.00000000 20.00000000\n",
+    ),
+    (
+        b"{\"weeks\":3,\"base\":1,\"spacing\":2,\"calendar\":true}",
+        b"week,from,to,frozen\n1,2,12,0\n3,3,12,0\n",
+        "path 2 2 3\nprices 8.00 8.00 5.00\nrevenue 21.00000000 21.00000000\n",
+    ),
+    // A spacing that ends past the season.
+    (
+        b"{\"weeks\":3,\"base\":1,\"spacing\":12,\"calendar\":true}",
+        b"week,from,to,frozen\n3,2,12,0\n",
+        "path 1 1 2\nprices 10.00 10.00 8.00\nrevenue 10.00000000 10.00000000\n",
+    ),
+    // A window that ends past the last rung, and one that begins there.
+    (
+        b"{\"weeks\":3,\"base\":1,\"calendar\":true}",
+        b"week,from,to,frozen\n2,3,12,0\n",
+        "path 1 3 3\nprices 10.00 5.00 5.00\nrevenue 20.00000000 20.00000000\n",
+    ),
+    (
+        b"{\"weeks\":3,\"base\":1,\"calendar\":true}",
+        b"week,from,to,frozen\n2,4,12,0\n",
+        "",
+    ),
+    // A frozen week keeps the rung before it; a frozen first week keeps the first.
+    (
+        b"{\"weeks\":3,\"base\":1,\"calendar\":true}",
+        b"week,from,to,frozen\n3,2,2,1\n",
+        "path 1 2 2\nprices 10.00 8.00 8.00\nrevenue 18.00000000 18.00000000\n",
+    ),
+    (
+        b"{\"weeks\":3,\"base\":1,\"calendar\":true}",
+        b"week,from,to,frozen\n1,2,12,1\n",
+        "",
+    ),
+    // No markdown at all.
+    (
+        b"{\"weeks\":3,\"base\":1,\"markdowns\":0,\"calendar\":true}",
+        b"week,from,to,frozen\n2,1,12,0\n",
+        "path 1 1 1\nprices 10.00 10.00 10.00\nrevenue 10.00000000 10.00000000\n",
+    ),
+    (
+        b"{\"weeks\":3,\"base\":1,\"markdowns\":0,\"calendar\":true}",
+        b"week,from,to,frozen\n3,2,12,0\n",
+        "",
+    ),
+    // The first markdown may cut 20 in 100, as far as the second rung and no deeper; later ones may.
+    (
+        b"{\"weeks\":3,\"base\":1,\"first_cut\":20,\"calendar\":true}",
+        b"week,from,to,frozen\n2,2,12,0\n",
+        "path 1 2 2\nprices 10.00 8.00 8.00\nrevenue 18.00000000 18.00000000\n",
+    ),
+    (
+        b"{\"weeks\":3,\"base\":1,\"first_cut\":19,\"calendar\":true}",
+        b"week,from,to,frozen\n2,2,12,0\n",
+        "",
+    ),
+    (
+        b"{\"weeks\":3,\"base\":1,\"first_cut\":20,\"calendar\":true}",
+        b"week,from,to,frozen\n3,3,12,0\n",
+        "path 1 2 3\nprices 10.00 8.00 5.00\nrevenue 23.00000000 23.00000000\n",
+    ),
+    (
+        b"{\"weeks\":3,\"base\":1,\"first_cut\":10}",
+        b"",
+        "path 1 1 1\nprices 10.00 10.00 10.00\nrevenue 10.00000000 10.00000000\n",
+    ),
+    // A window that shuts what the week before opened.
+    (
+        b"{\"weeks\":3,\"base\":1,\"calendar\":true}",
+        b"week,from,to,frozen\n1,2,12,0\n2,1,1,0\n",
+        "",
+    ),
+];
+
+#[test]
+fn paths_obey(rt: HostRuntime) -> Result<(), Fail> {
+    let alloc = rt.alloc();
+    for (index, (rules, calendar, lines)) in PATHS.iter().enumerate() {
+        let files = Files {
+            rules,
+            calendar,
+            ..THREE
+        };
+        let answer = planned(alloc, files)?;
+        if lines.is_empty() {
+            assert!(rt; answer.notes(Status::NoPath, "no path"), "{index}");
+        } else {
+            assert!(rt; answer.status == Status::Ok, "{index}");
+            assert!(rt; answer.out.bytes().ends_with(lines.as_bytes()), "{index}");
+        }
+    }
+    Ok(())
+}
+
+// Two weeks and two rungs, with a calendar and a demand that is the same in each week on each rung.
+const TWO: Files<'static> = Files {
+    rules: b"{\"weeks\":2,\"base\":1,\"calendar\":true}",
+    calendar: b"week,from,to,frozen\n1,2,2,0\n",
+    ladder: b"rung,price\n1,10.00\n2,6.00\n",
+    stock: b"store,units,salvage\na,1,0\n",
+    demand: b"store,week,rung,units,weight\na,1,1,1,1\na,1,2,1,1\na,2,1,1,1\na,2,2,1,1\n",
+};
+
+#[test]
+fn calendars_are_read(rt: HostRuntime) -> Result<(), Fail> {
+    let alloc = rt.alloc();
+    let first = planned(alloc, TWO)?;
+    assert!(rt;
+        first.reports(b"season 1 stores 2 weeks 2 rungs base 1\npath 2 2\nprices 6.00 6.00\nrevenue 6.00000000 6.00000000\n")
+    );
+    let shut = Files {
+        calendar: b"week,from,to,frozen\n1,2,12,0\n2,1,1,0\n",
+        demand: b"store,week,rung,units,weight\na,1,1,0,1\na,1,2,0,1\na,2,1,0,1\na,2,2,0,1\n",
+        ..TWO
+    };
+    assert!(rt; planned(alloc, shut)?.notes(Status::NoPath, "no path"));
+    // A relabelling cost is paid in the one markdown week, though nothing is sold.
+    let costly = Files {
+        rules: b"{\"version\":2,\"weeks\":1,\"base\":1,\"calendar\":true}",
+        calendar: b"week,from,to,frozen\n1,2,12,0\n",
+        stock: b"store,units,salvage,relabel\na,0,0,3.00\n",
+        demand: b"store,week,rung,units,weight\na,1,1,0,1\na,1,2,0,1\n",
+        ..TWO
+    };
+    assert!(rt;
+        planned(alloc, costly)?.reports(b"season 1 stores 1 weeks 2 rungs base 1\npath 2\nprices 6.00\nrevenue -3.00000000 -3.00000000\n")
+    );
+    let order = Files {
+        calendar: b"week,from,to,frozen\n1,3,2,0\n",
+        ..TWO
+    };
+    assert!(rt; planned(alloc, order)?.notes(Status::Refused, "refused: calendar.csv row 1 column to order"));
+    Ok(())
+}
+
+// So many stores of 1999 units, but for the first, which has `first` units.
+fn many_stores(alloc: Global, stores: u32, first: u32) -> Result<Vec<u8>, AllocError> {
+    let mut text = b"store,units,salvage\n".to_vec(alloc)?;
+    for store in 1..=stores {
+        let units = if store == 1 { first } else { 1999 };
+        text.extend_from_slice(format!(in alloc; "s{store},{units},0.01\n")?.as_bytes())?;
+    }
+    Ok(text)
+}
+
+// Their demand: none in any of four weeks on any of five rungs.
+fn no_demand(alloc: Global, stores: u32) -> Result<Vec<u8>, AllocError> {
+    let mut text = b"store,week,rung,units,weight\n".to_vec(alloc)?;
+    for store in 1..=stores {
+        for place in 0..20 {
+            let (week, rung) = (place / 5 + 1, place % 5 + 1);
+            text.extend_from_slice(
+                format!(in alloc; "s{store},{week},{rung},0,1\n")?.as_bytes(),
+            )?;
+        }
+    }
+    Ok(text)
+}
+
+#[test]
+fn chains_fit_their_cells(rt: HostRuntime) -> Result<(), Fail> {
+    let alloc = rt.alloc();
+    // 5 * 5 * 1 * 10 cells for each of a store's stocks.
+    let chains = [
+        (16, 1999, "revenue 319.84000000 319.84000000\n"),
+        (16, 2000, "revenue 319.85000000 319.85000000\n"),
+        (32, 1999, "revenue 639.68000000 639.68000000\n"),
+        (32, 2000, ""),
+    ];
+    for (stores, first, revenue) in chains {
+        let stock = many_stores(alloc, stores, first)?;
+        let demand = no_demand(alloc, stores)?;
+        let files = Files {
+            rules: b"{\"weeks\":4,\"base\":1,\"markdowns\":0,\"spacing\":10}",
+            ladder: b"rung,price\n1,5.00\n2,4.00\n3,3.00\n4,2.00\n5,1.00\n",
+            stock: &stock,
+            demand: &demand,
+            ..SMALLEST
+        };
+        let answer = planned(alloc, files)?;
+        if revenue.is_empty() {
+            assert!(rt; answer.notes(Status::Limit, "limit: cells 16000250"), "{stores}");
+        } else {
+            assert!(rt; answer.out.bytes().ends_with(revenue.as_bytes()), "{stores} {first}");
+        }
+    }
+    Ok(())
+}
+
+// The demand of the ordinary chain: 24 stores, 12 weeks, six rungs; spaces round the fields, and carriage returns.
+fn ordinary_demand(alloc: Global) -> Result<Vec<u8>, AllocError> {
+    let early: [u32; 4] = [4, 6, 6, 4];
+    let late: [[u32; 4]; 6] = [
+        [12, 6, 2, 0],
+        [8, 8, 4, 0],
+        [4, 10, 4, 2],
+        [4, 6, 6, 4],
+        [3, 5, 7, 5],
+        [2, 6, 4, 8],
+    ];
+    let mut text = b"\xEF\xBB\xBFstore, week ,rung,units,weight\r\n".to_vec(alloc)?;
+    for store in 1..=24 {
+        for week in 1..=12 {
+            for (index, weights) in late.iter().enumerate() {
+                let rung = index + 1;
+                let used = if week <= 4 { &early } else { weights };
+                for (units, weight) in used.iter().enumerate() {
+                    text.extend_from_slice(
+                        format!(in alloc; "s{store} , {week},{rung},{units}, {weight}\r\n")?.as_bytes(),
+                    )?;
+                }
+            }
+        }
+    }
+    Ok(text)
+}
+
+// In each store the first price sells 1.5 units in each of 4 weeks and 0.5 in each of 8, which earn 45.00 more than the
+// salvage of 5.00 a unit, and the salvage of all 40 units is 200.00: 650.00, 24 times.
+#[test]
+fn the_ordinary_chain_is_planned(rt: HostRuntime) -> Result<(), Fail> {
+    let alloc = rt.alloc();
+    let demand = ordinary_demand(alloc)?;
+    let mut stock = b"store,units,salvage\n".to_vec(alloc)?;
+    for store in 1..=24 {
+        stock.extend_from_slice(format!(in alloc; "s{store},40,5.00\n")?.as_bytes())?;
+    }
+    let files = Files {
+        rules: b"{\"weeks\":12,\"base\":20,\"markdowns\":3,\"spacing\":2,\"first_cut\":30}",
+        ladder: b"rung,price\n1,50.00\n2,45.00\n3,40.00\n4,35.00\n5,30.00\n6,25.00\n",
+        stock: &stock,
+        demand: &demand,
+        ..SMALLEST
+    };
+    let answer = planned(alloc, files)?;
+    assert!(rt;
+        answer.reports(b"season 24 stores 12 weeks 6 rungs base 20\npath 1 1 1 1 1 1 1 1 1 1 1 1\nprices 50.00 50.00 50.00 50.00 50.00 50.00 50.00 50.00 50.00 50.00 50.00 50.00\nrevenue 15600.00000000 15600.00000000\n")
+    );
+    Ok(())
+}
