@@ -11,7 +11,7 @@ use Rattle.clr_rules.proofs.LiveLemmas.{live-rung, live-whole, live_from, live_w
 use Rattle.clr_rules.proofs.LiveLists.{earlier_week, leads-live, live-by, live-front, split_last}
 use Rattle.clr_rules.proofs.SummaryLemmas.{live-keeps, summary-more}
 use Rattle.clr_rules.proofs.Sweeps.{NoneBelow, kept_some, none_leads, not_live_no_lead, rung_leads}
-use Rattle.clr_rules.proofs.Weeks.{length_more, rung_at-last, rung_at-more}
+use Rattle.clr_rules.proofs.WeekTests.{length_more, rung_at-last, rung_at-more}
 
 -- ---- the order of lists
 

@@ -2,7 +2,7 @@ pub mod Names
 pub mod Staying
 pub mod NumberLists
 pub mod ListTests
-pub mod Weeks
+pub mod WeekTests
 pub mod LiveLemmas
 pub mod SummaryLemmas
 pub mod Breach

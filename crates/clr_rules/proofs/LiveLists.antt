@@ -9,7 +9,7 @@ use Rattle.std.proofs.lemmas.Bool.{and_parts, and_from}
 use Rattle.clr_rules.proofs.ListTests.{all_lists-witness, any-witness, any-numbers}
 use Rattle.clr_rules.proofs.LiveLemmas.{any-rungs, live_from, live_witness, live-next, live-rung}
 use Rattle.clr_rules.proofs.SummaryLemmas.{keeps-more, summary-more, live-keeps, next_by_summary_lem}
-use Rattle.clr_rules.proofs.Weeks.{length_more}
+use Rattle.clr_rules.proofs.WeekTests.{length_more}
 
 -- ---- tests of equality
 

@@ -8,7 +8,7 @@ use Rattle.clr_rules.specs.declared.season_rules.Summary.{Summary}
 use Rattle.clr_rules.proofs.LiveLemmas.{live_witness, live_from}
 use Rattle.std.proofs.lemmas.Bool.{and_parts, and_from, false_from_ne_true}
 use mathlib.Core.Bool.{and-true, true-and, and_assoc}
-use Rattle.clr_rules.proofs.Weeks.{and_middle, all-one_more, all-same, all-and, all-true, count-one_more, count-same, none-count, length_more, rung_at-more, rung_at-last, rung_before-more, is_markdown-more, moves, is_markdown-last, each_week-more}
+use Rattle.clr_rules.proofs.WeekTests.{and_middle, all-one_more, all-same, all-and, all-true, count-one_more, count-same, none-count, length_more, rung_at-more, rung_at-last, rung_before-more, is_markdown-more, moves, is_markdown-last, each_week-more}
 
 -- ---- each rule, with one week more
 
