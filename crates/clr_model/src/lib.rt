@@ -4,8 +4,12 @@
 //! has 10^6, and each is a whole number.
 #![tactic(auto)]
 
+mod laws;
 mod path;
 mod week;
 
+pub use laws::{
+    chances_sum, one_store_split_off, one_week_split_off, path_enclosed, sold_in_a_week,
+};
 pub use path::Path;
 pub use week::{CENT, average_week, gain, relabelling};

@@ -1,5 +1,5 @@
 -- What the table of a path holds.
-use Rattle.std.proofs.Common.{◌≡◌, ℕ, zero, suc, ◌+◌, ◌-◌, ◌≤◌, ◌<◌, inl, inr, ℤ, pos, List, [], length, map, get_or, refl, ap, sym, ◌∙◌, subst, arith}
+use Rattle.std.proofs.Common.{◌≡◌, ℕ, zero, suc, ◌+◌, ◌-◌, ◌≤◌, ◌<◌, inl, inr, ℤ, pos, List, [], length, map, get_or, ap, sym, ◌∙◌, subst, arith}
 use Rattle.std.proofs.lemmas.Bool.{cases_lt}
 use Rattle.std.proofs.lemmas.List.{get_or_past, get_or-map}
 use Rattle.clr_num.specs.Direction.{IsDirection}
@@ -9,11 +9,11 @@ use Rattle.clr_rules.specs.Rules.{IsPath}
 use Rattle.clr_season.specs.Season.{Season, IsSeason, store_at}
 use Rattle.clr_stock.specs.Stock.{no_store}
 use Rattle.clr_average.specs.Average.{IsWithin}
-use Rattle.clr_average.proofs.Ring.{linear}
 use Rattle.clr_average.proofs.Within.{within_pos}
 use Rattle.clr_model.specs.PathValue.{path_total, path_value, path_value_at}
 use Rattle.clr_model.specs.Revenue.{full_stocks, of_store}
 use Rattle.clr_model.proofs.Sizes.{path_value_small}
+use Rattle.clr_model.proofs.Sums.{sum_of-same}
 use Rattle.clr_path.specs.Tables.{IsRowOf, IsTable, full_value, path_rows, row_at, store_rows, table_total, value_at}
 use Rattle.clr_path.proofs.Lists.{length-numbers, get_or-numbers}
 
@@ -85,13 +85,6 @@ module _ (div : ℤ → ℕ → ℤ) (season : Season) (path : List ℕ) where
       small (suc i) done stock = elim (cases_lt i (length season.stores)) [ (inl less) ↦ in_store i done stock less | (inr more) ↦ nothing_small _ (past_stores i done stock more) ]
 
   -- ---- the total
-
-  sum_of-same : (n : ℕ) (f g : ℕ → ℤ) → ((i : ℕ) → i < n → f i ≡ g i) → sum_of n f ≡ sum_of n g
-  sum_of-same zero f g h = refl
-  sum_of-same (suc n) f g h =
-      let here : f 0 ≡ g 0 = h 0 (omega arith) in
-      let rest : sum_of n (λ i. f (suc i)) ≡ sum_of n (λ i. g (suc i)) = sum_of-same n (λ i. f (suc i)) (λ i. g (suc i)) (λ i p. h (suc i) (omega arith)) in
-      omega (arith, linear)
 
   full_is : (i : ℕ) → i < length season.stores → full_value (row_at (path_rows div season path) (suc i) 0) ≡ path_value div season (suc i) 0 1 path (of_store (full_stocks season) (suc i))
   full_is i lt =

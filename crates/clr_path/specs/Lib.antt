@@ -1,2 +1,3 @@
 pub mod Flat
 pub mod Tables
+pub mod Interval

@@ -7,4 +7,4 @@
 mod rows;
 mod table;
 
-pub use table::PathTable;
+pub use table::{PathTable, path_encloses};

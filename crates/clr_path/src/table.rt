@@ -1,9 +1,13 @@
 // A path's values over all stores.
 ghost use Rattle.clr_average.specs.Average.{IsWithin};
+ghost use Rattle.clr_model.specs.Expected.{den, season_earned};
 ghost use Rattle.clr_model.specs.PathValue.{path_total};
+ghost use Rattle.clr_model.specs.Policies.{const_tree};
+ghost use Rattle.clr_model.specs.Revenue.{cent};
+ghost use Rattle.clr_path.specs.Interval.{PathEncloses};
 ghost use Rattle.clr_path.specs.Tables.{IsRowOf, full_value, path_rows, row_at, table_total, value_at};
 ghost use Rattle.clr_rules.specs.Rules.{IsPath};
-ghost use Rattle.std.specs.Prelude.{◌≡◌, ℕ, ◌≤◌, ◌<◌, [], length, get_or, pos, EachIndex, IfOk};
+ghost use Rattle.std.specs.Prelude.{◌≡◌, ℕ, ◌≤◌, ◌<◌, ◌*ℤ◌, [], length, get_or, pos, EachIndex, IfOk};
 
 use crate::rows::{StoreRows, build_rows};
 use clr_model::Path;
@@ -32,11 +36,12 @@ impl<R: Direction> Model for PathTable<R> {
 }
 
 impl<R: Direction> PathTable<R> {
-    /// The table of a path of the season.
+    /// The table of a path of the season. Its total leans in the direction `R` from what the path earns in expectation.
     pub fn build(alloc: Global, season: &Season, path: &Path) -> Result<PathTable<R>, AllocError>
         requires { IsPath season.now.rules path.now }
         ensures rows { IfOk result (λ table. table ≡ path_rows R.quotient season.now path.now) }
         ensures total { IfOk result (λ table. table_total table ≡ path_total R.quotient season.now path.now) }
+        ensures leans { IfOk result (λ table. R.leans (table_total table *ℤ den season.now season.now.rules.weeks) (pos cent *ℤ season_earned season.now (const_tree path.now))) }
     {
         let count = season.stores();
         let mut stores = Vec::with_capacity(alloc, count as usize)?;
@@ -88,3 +93,9 @@ fn full(row: &[i64]) -> i64
 {
     row[row.len() - 1]
 }
+
+/// The totals of a path's two tables enclose what the path earns in expectation, and lie at most a unit apart for each store
+/// and week.
+pub fn path_encloses()
+    ensures { PathEncloses }
+{}

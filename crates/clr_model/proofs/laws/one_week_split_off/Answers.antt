@@ -1,0 +1,5 @@
+use Rattle.clr_model.proofs.Weeks.{one_week_split_off_lem}
+use Rattle.clr_model.proofs.laws.one_week_split_off.Goals as goal
+
+pub returns : goal.returns
+returns c = one_week_split_off_lem
