@@ -180,7 +180,8 @@ impl Season {
 
     /// The rules.
     pub fn rules(&self) -> &Rules
-        ensures { result.now ≡ self.now.rules }
+        ensures value { result.now ≡ self.now.rules }
+        ensures facts { IsSeason self.now }
     {
         &self.rules
     }

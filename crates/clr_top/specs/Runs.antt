@@ -16,6 +16,7 @@ use Rattle.clr_season.specs.declared.reads.File.{File}
 use Rattle.clr_season.specs.declared.reads.File.TheVariants as f
 use Rattle.clr_season.specs.declared.reads.SeasonError.{SeasonError}
 use Rattle.clr_season.specs.declared.reads.SeasonError.TheVariants as e
+use Rattle.clr_model.specs.Laws.{IsInterval}
 use Rattle.clr_model.specs.PathValue.{path_low, path_high}
 use Rattle.clr_report.specs.NoteText.{note_text_of}
 use Rattle.clr_report.specs.PlanText.{plan_text}
@@ -140,11 +141,13 @@ planned held words = season_for held (asked_plan words)
 
 -- ---- what is reported
 
--- The first path that obeys, in the order of lists, with its low and its high value.
+-- The first path that obeys, in the order of lists, with its low and its high value: between them lies what the path earns
+-- in expectation, and they are at most a unit apart for each store and week.
 pub record IsPlan (season : Season) (path : List ℕ) (low high : ℤ) : Type 0 where
   pub first : IsFirstObeying season.rules path
   pub least : low ≡ path_low season path
   pub most : high ≡ path_high season path
+  pub interval : IsInterval season path low high
 
 -- something holds of the text of the report on a season's plan
 abbrev pub OfPlan : Season → (List ℕ → Type 0) → Type 0

@@ -1,8 +1,11 @@
 // What the worked cases share: the files of a season, and what a run answers to them.
 use crate::ending::Status;
 use crate::program::run;
-use clr_io::{MemoryDesk, MemoryShelf, MemorySink, Shelf};
+use clr_io::{FileShelf, MemoryDesk, MemoryShelf, MemorySink, Shelf};
 use std::alloc::{AllocError, Global};
+use std::fs;
+use std::rt::Files as RealFiles;
+use std::test::Fail;
 
 // The files of a season.
 #[derive(Clone, Copy)]
@@ -126,4 +129,20 @@ pub(crate) fn run_on<H: Shelf>(
 pub(crate) fn planned(alloc: Global, files: Files<'_>) -> Result<Answer, AllocError> {
     let mut shelf = MemoryShelf::new(held(alloc, files, 0)?, 16, Vec::new(alloc));
     run_on(alloc, &["plan", "f"], &mut shelf, &[])
+}
+
+// The plan of the same files in the real folder `f`, which is there.
+pub(crate) fn planned_on_disk(
+    rt: &impl RealFiles,
+    alloc: Global,
+    files: Files<'_>,
+) -> Result<Answer, Fail> {
+    fs::write(rt, "f/rules.json", files.rules)?;
+    fs::write(rt, "f/calendar.csv", files.calendar)?;
+    fs::write(rt, "f/ladder.csv", files.ladder)?;
+    fs::write(rt, "f/stock.csv", files.stock)?;
+    fs::write(rt, "f/demand.csv", files.demand)?;
+    let mut shelf = FileShelf::new(rt);
+    let answer = run_on(alloc, &["plan", "f"], &mut shelf, &[])?;
+    Ok(answer)
 }

@@ -2,12 +2,14 @@
 ghost use Rattle.std.specs.Prelude.{◌≤◌};
 
 use crate::cases::{
-    Answer, Files, SMALLEST, SMALLEST_REPORT, held, list_of, planned, run_on, words_of,
+    Answer, Files, SMALLEST, SMALLEST_REPORT, held, list_of, planned, planned_on_disk, run_on,
+    words_of,
 };
 use crate::ending::Status;
 use crate::program::run;
-use clr_io::{MemoryDesk, MemoryShelf, MemorySink};
+use clr_io::{FileShelf, MemoryDesk, MemoryShelf, MemorySink};
 use std::alloc::{AllocError, Global};
+use std::fs;
 use std::test::Fail;
 
 const USAGE: &str =
@@ -79,6 +81,7 @@ fn padded(alloc: Global, count: usize) -> Result<Vec<u8>, AllocError>
 #[test]
 fn long_and_deep_files_are_told(rt: HostRuntime) -> Result<(), Fail> {
     let alloc = rt.alloc();
+    fs::create_dir(&rt, "f")?;
     let deep = nested(alloc, 128)?;
     let answer = planned(
         alloc,
@@ -101,7 +104,33 @@ fn long_and_deep_files_are_told(rt: HostRuntime) -> Result<(), Fail> {
             answer.notes(Status::Limit, "limit: demand.csv longer than 33554432") != fits,
             "{count}"
         );
+        let on_disk = planned_on_disk(&rt, alloc, files)?;
+        assert!(rt; on_disk.reports(SMALLEST_REPORT) == fits, "{count} on disk");
+        assert!(rt;
+            on_disk.notes(Status::Limit, "limit: demand.csv longer than 33554432") != fits,
+            "{count} on disk"
+        );
     }
+    Ok(())
+}
+
+#[test]
+fn real_folders_lack_files(rt: HostRuntime) -> Result<(), Fail> {
+    let alloc = rt.alloc();
+    let mut shelf = FileShelf::new(&rt);
+    let no_folder = run_on(alloc, &["plan", "f"], &mut shelf, &[])?;
+    assert!(rt; no_folder.notes(Status::Absent, "absent: rules.json"));
+    fs::create_dir(&rt, "f")?;
+    let whole = planned_on_disk(&rt, alloc, SMALLEST)?;
+    assert!(rt; whole.reports(SMALLEST_REPORT));
+    fs::remove_file(&rt, "f/demand.csv")?;
+    let no_demand = run_on(alloc, &["plan", "f"], &mut shelf, &[])?;
+    assert!(rt; no_demand.notes(Status::Absent, "absent: demand.csv"));
+    // A folder in the place of a file opens, and can't be read.
+    fs::create_dir(&rt, "g")?;
+    fs::create_dir(&rt, "g/rules.json")?;
+    let folder = run_on(alloc, &["plan", "g"], &mut shelf, &[])?;
+    assert!(rt; folder.notes(Status::ReadFault, "read fault: rules.json"));
     Ok(())
 }
 

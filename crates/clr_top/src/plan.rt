@@ -6,6 +6,7 @@ ghost use Rattle.clr_report.specs.declared.note.Cause.{Cause};
 ghost use Rattle.clr_rules.specs.FirstPath.{IsFirstObeying, NoPathObeys};
 ghost use Rattle.clr_rules.specs.LiveSummaries.{live_pairs};
 ghost use Rattle.clr_rules.specs.Rules.{IsPath};
+ghost use Rattle.clr_season.specs.Season.{IsSeason};
 ghost use Rattle.clr_top.specs.declared.ending.Ending.{Ending};
 ghost use Rattle.clr_top.specs.Runs.{OfPlan};
 
@@ -50,6 +51,7 @@ fn plan_facts(path: Path, low: i128, high: i128) -> PlanFacts
 
 // The report of the first path that obeys, where some path does.
 fn first_plan(alloc: Global, season: &Season, live: &Live) -> Result<Vec<u8>, AllocError>
+    requires facts { IsSeason season.now }
     requires live { live.now ≡ live_pairs season.now.rules }
     requires some { 0 < length live.now }
     ensures { IfOk result (λ text. OfPlan season.now (λ told. text.items ≡ told)) }

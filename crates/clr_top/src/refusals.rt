@@ -1,6 +1,9 @@
 // Files that are refused: each with its note, the first refusal in the order of the files, rows and columns.
-use crate::cases::{Files, SMALLEST, planned};
+use crate::cases::{Files, SMALLEST, TWO_WEEKS, planned, planned_on_disk};
 use crate::ending::Status;
+use std::alloc::Global;
+use std::fs;
+use std::rt::Files as RealFiles;
 use std::test::Fail;
 
 const RULES: [(&[u8], &str); 27] = [
@@ -370,12 +373,70 @@ const DEMANDS: [(&[u8], &str); 14] = [
     ),
 ];
 
+// Later versions: a column of costs, and weights that are scaled to the base.
+const VERSIONS: [(Files<'static>, &str); 5] = [
+    (
+        Files {
+            rules: b"{\"version\":2,\"weeks\":2,\"base\":2}",
+            ..TWO_WEEKS
+        },
+        "refused: stock.csv header",
+    ),
+    (
+        Files {
+            rules: b"{\"version\":2,\"weeks\":1,\"base\":4}",
+            stock: b"store,units,salvage,relabel\na,1,2.00,100000.01\n",
+            ..SMALLEST
+        },
+        "refused: stock.csv row 1 column relabel range",
+    ),
+    (
+        Files {
+            rules: b"{\"version\":2,\"weeks\":1,\"base\":4}",
+            stock: b"store,units,salvage,relabel\na,1,2.00,free\na,1,2.00,0\n",
+            ..SMALLEST
+        },
+        "refused: stock.csv row 1 column relabel money",
+    ),
+    (
+        Files {
+            rules: b"{\"version\":3,\"weeks\":1,\"base\":12}",
+            stock: b"store,units,salvage,relabel\na,1,2.00,0\n",
+            demand: b"store,week,rung,units,weight\na,1,1,0,1\na,1,1,1,4\n",
+            ..SMALLEST
+        },
+        "refused: demand.csv store 1 week 1 rung 1 total 5",
+    ),
+    (
+        Files {
+            rules: b"{\"version\":3,\"weeks\":1,\"base\":12}",
+            stock: b"store,units,salvage,relabel\na,1,2.00,0\n",
+            demand: b"store,week,rung,units,weight\na,1,1,0,0\n",
+            ..SMALLEST
+        },
+        "refused: demand.csv store 1 week 1 rung 1 total 0",
+    ),
+];
+
+// Each case over the memory and over a real folder: the file that differs from the smallest season's, and the note.
+fn is_refused(
+    rt: &impl RealFiles,
+    alloc: Global,
+    files: Files<'_>,
+    note: &str,
+) -> Result<bool, Fail> {
+    let told = planned(alloc, files)?;
+    let on_disk = planned_on_disk(rt, alloc, files)?;
+    Ok(told.notes(Status::Refused, note) && on_disk.notes(Status::Refused, note))
+}
+
 #[test]
 fn first_refusals_are_told(rt: HostRuntime) -> Result<(), Fail> {
     let alloc = rt.alloc();
+    fs::create_dir(&rt, "f")?;
     for (rules, note) in RULES {
-        let answer = planned(alloc, Files { rules, ..SMALLEST })?;
-        assert!(rt; answer.notes(Status::Refused, note), "{note}");
+        let files = Files { rules, ..SMALLEST };
+        assert!(rt; is_refused(&rt, alloc, files, note)?, "{note}");
     }
     for (calendar, note) in CALENDARS {
         let files = Files {
@@ -383,20 +444,22 @@ fn first_refusals_are_told(rt: HostRuntime) -> Result<(), Fail> {
             calendar,
             ..SMALLEST
         };
-        let answer = planned(alloc, files)?;
-        assert!(rt; answer.notes(Status::Refused, note), "{note}");
+        assert!(rt; is_refused(&rt, alloc, files, note)?, "{note}");
     }
     for (ladder, note) in LADDERS {
-        let answer = planned(alloc, Files { ladder, ..SMALLEST })?;
-        assert!(rt; answer.notes(Status::Refused, note), "{note}");
+        let files = Files { ladder, ..SMALLEST };
+        assert!(rt; is_refused(&rt, alloc, files, note)?, "{note}");
     }
     for (stock, note) in STOCKS {
-        let answer = planned(alloc, Files { stock, ..SMALLEST })?;
-        assert!(rt; answer.notes(Status::Refused, note), "{note}");
+        let files = Files { stock, ..SMALLEST };
+        assert!(rt; is_refused(&rt, alloc, files, note)?, "{note}");
     }
     for (demand, note) in DEMANDS {
-        let answer = planned(alloc, Files { demand, ..SMALLEST })?;
-        assert!(rt; answer.notes(Status::Refused, note), "{note}");
+        let files = Files { demand, ..SMALLEST };
+        assert!(rt; is_refused(&rt, alloc, files, note)?, "{note}");
+    }
+    for (files, note) in VERSIONS {
+        assert!(rt; is_refused(&rt, alloc, files, note)?, "{note}");
     }
     Ok(())
 }

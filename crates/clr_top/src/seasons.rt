@@ -1,7 +1,5 @@
 // Worked seasons: what `run` reports of files in memory and of real ones.
-use crate::cases::{Files, SMALLEST, SMALLEST_REPORT, TWO_WEEKS, planned, run_on};
-use crate::ending::Status;
-use clr_io::FileShelf;
+use crate::cases::{Files, SMALLEST, SMALLEST_REPORT, TWO_WEEKS, planned, planned_on_disk};
 use std::fs;
 use std::test::Fail;
 
@@ -129,88 +127,12 @@ const SEASONS: [(Files<'static>, &[u8]); 14] = [
 #[test]
 fn seasons_are_planned(rt: HostRuntime) -> Result<(), Fail> {
     let alloc = rt.alloc();
-    for (index, (files, report)) in SEASONS.iter().enumerate() {
-        let answer = planned(alloc, *files)?;
-        assert!(rt; answer.reports(report), "{index}");
-    }
-    Ok(())
-}
-
-// Real folders: a name, the files by which it differs from the smallest season, and the note.
-const REFUSED_FOLDERS: [(Files<'static>, &str); 6] = [
-    (
-        Files {
-            demand: b"store,week,rung,units,weight\na,1,1,0,1\na,1,1,1,3\na,1,1,1,3\n",
-            ..SMALLEST
-        },
-        "refused: demand.csv row 3 repeat of row 2",
-    ),
-    (
-        Files {
-            demand: b"store,week,rung,units,weight\na,1,1,0,1\na,1,1,1,2\n",
-            ..SMALLEST
-        },
-        "refused: demand.csv store 1 week 1 rung 1 total 3",
-    ),
-    (
-        Files {
-            ladder: b"rung,price\n1,10.00\n2,10.00\n",
-            ..SMALLEST
-        },
-        "refused: ladder.csv row 2 column price order",
-    ),
-    (
-        Files {
-            rules: b"{\"weeks\":1}",
-            ..SMALLEST
-        },
-        "refused: rules.json base missing",
-    ),
-    (
-        Files {
-            rules: b"{\"version\":2,\"weeks\":2,\"base\":2}",
-            ..TWO_WEEKS
-        },
-        "refused: stock.csv header",
-    ),
-    (
-        Files {
-            rules: b"{\"version\":3,\"weeks\":1,\"base\":12}",
-            stock: b"store,units,salvage,relabel\na,1,2.00,0\n",
-            demand: b"store,week,rung,units,weight\na,1,1,0,1\na,1,1,1,4\n",
-            ..SMALLEST
-        },
-        "refused: demand.csv store 1 week 1 rung 1 total 5",
-    ),
-];
-
-#[test]
-fn real_folders_are_planned(rt: HostRuntime) -> Result<(), Fail> {
-    let alloc = rt.alloc();
     fs::create_dir(&rt, "f")?;
-    let mut shelf = FileShelf::new(&rt);
-    let absent = run_on(alloc, &["plan", "f"], &mut shelf, &[])?;
-    assert!(rt; absent.notes(Status::Absent, "absent: rules.json"));
     for (index, (files, report)) in SEASONS.iter().enumerate() {
-        fs::write(&rt, "f/rules.json", files.rules)?;
-        fs::write(&rt, "f/ladder.csv", files.ladder)?;
-        fs::write(&rt, "f/stock.csv", files.stock)?;
-        fs::write(&rt, "f/demand.csv", files.demand)?;
-        let answer = run_on(alloc, &["plan", "f"], &mut shelf, &[])?;
-        assert!(rt; answer.reports(report), "{index}");
+        let told = planned(alloc, *files)?;
+        assert!(rt; told.reports(report), "{index}");
+        let on_disk = planned_on_disk(&rt, alloc, *files)?;
+        assert!(rt; on_disk.reports(report), "{index} on disk");
     }
-    for (files, note) in REFUSED_FOLDERS {
-        fs::write(&rt, "f/rules.json", files.rules)?;
-        fs::write(&rt, "f/ladder.csv", files.ladder)?;
-        fs::write(&rt, "f/stock.csv", files.stock)?;
-        fs::write(&rt, "f/demand.csv", files.demand)?;
-        let answer = run_on(alloc, &["plan", "f"], &mut shelf, &[])?;
-        assert!(rt; answer.notes(Status::Refused, note), "{note}");
-    }
-    // A folder in the place of a file opens, and can't be read.
-    fs::create_dir(&rt, "g")?;
-    fs::create_dir(&rt, "g/rules.json")?;
-    let folder = run_on(alloc, &["plan", "g"], &mut shelf, &[])?;
-    assert!(rt; folder.notes(Status::ReadFault, "read fault: rules.json"));
     Ok(())
 }

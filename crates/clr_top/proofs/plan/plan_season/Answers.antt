@@ -11,6 +11,6 @@ returns-then-not-any-clause-ends c = λ ending is.
     let same : c.by-then-not-any.result ≡ ending = cc in
     let by : ending ≡ By NoPath = sym same ∙ c.by-then-not-any.ensures in
     let no : c.any.result ≡ false = search rules in
-    let here : c.rules.result.now ≡ c.args.season.now.rules = c.rules.ensures in
+    let here : c.rules.result.now ≡ c.args.season.now.rules = c.rules.ensures.value in
     let some : (0 < length c.in-Ok.live) ↔ SomePathObeys c.args.season.now.rules = rw here at c.in-Ok.ensures.any in
     inr (by, none-lives c.args.season.now.rules c.any.result (length c.in-Ok.live) no c.any.ensures some)
