@@ -2,9 +2,9 @@
 #![tactic(auto)]
 
 mod files;
-mod whole;
 mod reads;
 mod season;
+mod whole;
 
 pub use reads::{File, SeasonError, read_season};
 pub use season::Season;

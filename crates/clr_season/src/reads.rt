@@ -5,8 +5,8 @@ ghost use Rattle.clr_season.specs.Season.{IsSeason};
 ghost use Rattle.clr_season.specs.Reads.{Gives, season_in};
 
 use crate::files::{folder_calendar, folder_demand, folder_ladder, folder_limits, folder_stock};
-use crate::whole::season_of_parts;
 use crate::season::Season;
+use crate::whole::season_of_parts;
 use clr_io::Shelf;
 use clr_text::Why;
 use std::alloc::Global;
@@ -32,13 +32,19 @@ pub enum File {
 pub enum SeasonError {
     /// The shelf failed while it opened or read this file.
     #[error("{file:?} could not be read")]
-    Read { file: File },
+    Read {
+        file: File,
+    },
     /// The shelf holds no such file.
     #[error("{file:?} is absent")]
-    Absent { file: File },
+    Absent {
+        file: File,
+    },
     /// The file has more than 33,554,432 bytes.
     #[error("{file:?} is too long")]
-    TooLong { file: File },
+    TooLong {
+        file: File,
+    },
     /// The file breaks a rule of its form, first at this row and column; either is 0 where the cause has none.
     #[error("{file:?} is refused at row {row}, column {column}: {why:?}")]
     Refused {
@@ -49,7 +55,9 @@ pub enum SeasonError {
     },
     /// The tables of the season would have so many cells, and that is more than 16,000,000.
     #[error("{found} cells are too many")]
-    Cells { found: u64 },
+    Cells {
+        found: u64,
+    },
     /// Memory was wanting.
     #[error("out of memory")]
     Memory,

@@ -194,6 +194,7 @@ exactly-caused held words taken shelf_old shelf_new out_old out_new (By (Cells f
 exactly-caused held words taken shelf_old shelf_new out_old out_new (By Memory) caused = memory-wanting (planned held words)
 exactly-caused held words taken shelf_old shelf_new out_old out_new (NotYet w.Job) caused = exactly-of s.NotYet (planned held words) (NotYet w.Job) (by-words held words (NotYet w.Job) caused) refl
 exactly-caused held words taken shelf_old shelf_new out_old out_new (NotYet w.Cert) caused = exactly-of s.NotYet (planned held words) (NotYet w.Cert) (by-words held words (NotYet w.Cert) caused) refl
+
 -- a whole report
 pub exactly-reported : (given : Result Season Ending) → IsOk given → Exactly s.Ok given
 exactly-reported (Ok season) is = inl refl

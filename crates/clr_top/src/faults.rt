@@ -139,9 +139,9 @@ fn no_demand(alloc: Global, weeks: u32, rungs: u32) -> Result<Vec<u8>, AllocErro
     let mut text = b"store,week,rung,units,weight\n".to_vec(alloc)?;
     for week in 1..=weeks {
         for rung in 1..=rungs {
-            text.extend_from_slice(
-                format!(in alloc; "a,{week},{rung},0,1\nb,{week},{rung},0,1\n")?.as_bytes(),
-            )?;
+            text.extend_from_slice(format!(in alloc;
+                "a,{week},{rung},0,1\nb,{week},{rung},0,1\n"
+            )?.as_bytes())?;
         }
     }
     Ok(text)
@@ -192,7 +192,10 @@ fn each_call_fails_once(rt: HostRuntime) -> Result<(), Fail> {
             _ => "read fault: demand.csv",
         };
         let failed = fail <= 18;
-        assert!(rt; answer.notes(Status::ReadFault, note) == failed, "shelf {fail}");
+        assert!(rt;
+            answer.notes(Status::ReadFault, note) == failed,
+            "shelf {fail}"
+        );
         assert!(rt; answer.reports(SMALLEST_REPORT) != failed, "shelf {fail}");
     }
     for fail in 1..=7 {
@@ -225,8 +228,16 @@ fn words_are_read(rt: HostRuntime) -> Result<(), Fail> {
         (&["plan", "f", "--steps", "101"], Status::Words, USAGE),
         (&["check", "f"], Status::NotYet, "not yet: job"),
         (&["judge", "f"], Status::NotYet, "not yet: job"),
-        (&["make", "f", "--cert", "c"], Status::NotYet, "not yet: job"),
-        (&["plan", "f", "--cert", "c"], Status::NotYet, "not yet: cert"),
+        (
+            &["make", "f", "--cert", "c"],
+            Status::NotYet,
+            "not yet: job",
+        ),
+        (
+            &["plan", "f", "--cert", "c"],
+            Status::NotYet,
+            "not yet: cert",
+        ),
         (&["plan", "e"], Status::Absent, "absent: rules.json"),
     ];
     for (words, status, note) in cases {
@@ -234,7 +245,9 @@ fn words_are_read(rt: HostRuntime) -> Result<(), Fail> {
         let answer = run_on(alloc, words, &mut shelf, &[])?;
         assert!(rt; answer.notes(status, note), "{note}");
     }
-    let words = ["plan", "--steps", "3", "f", "--step=2", "--nodes", "0", "--seed", "7"];
+    let words = [
+        "plan", "--steps", "3", "f", "--step=2", "--nodes", "0", "--seed", "7",
+    ];
     let mut shelf = MemoryShelf::new(held(alloc, SMALLEST, 0)?, 16, Vec::new(alloc));
     let answer = run_on(alloc, &words, &mut shelf, &[])?;
     assert!(rt; answer.reports(SMALLEST_REPORT));

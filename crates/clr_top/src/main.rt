@@ -3,15 +3,15 @@
 //! `main` makes the real shelf, desk and sinks, and exits with the number of the status that `run` gives.
 #![tactic(auto)]
 
-mod ending;
-mod plan;
-mod program;
 #[cfg(test)]
 mod cases;
+mod ending;
 #[cfg(test)]
 mod faults;
 #[cfg(test)]
 mod paths;
+mod plan;
+mod program;
 #[cfg(test)]
 mod refusals;
 #[cfg(test)]

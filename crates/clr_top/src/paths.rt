@@ -139,7 +139,9 @@ fn calendars_are_read(rt: HostRuntime) -> Result<(), Fail> {
     let alloc = rt.alloc();
     let first = planned(alloc, TWO)?;
     assert!(rt;
-        first.reports(b"season 1 stores 2 weeks 2 rungs base 1\npath 2 2\nprices 6.00 6.00\nrevenue 6.00000000 6.00000000\n")
+        first.reports(
+            b"season 1 stores 2 weeks 2 rungs base 1\npath 2 2\nprices 6.00 6.00\nrevenue 6.00000000 6.00000000\n"
+        )
     );
     let shut = Files {
         calendar: b"week,from,to,frozen\n1,2,12,0\n2,1,1,0\n",
@@ -156,13 +158,20 @@ fn calendars_are_read(rt: HostRuntime) -> Result<(), Fail> {
         ..TWO
     };
     assert!(rt;
-        planned(alloc, costly)?.reports(b"season 1 stores 1 weeks 2 rungs base 1\npath 2\nprices 6.00\nrevenue -3.00000000 -3.00000000\n")
+        planned(alloc, costly)?.reports(
+            b"season 1 stores 1 weeks 2 rungs base 1\npath 2\nprices 6.00\nrevenue -3.00000000 -3.00000000\n"
+        )
     );
     let order = Files {
         calendar: b"week,from,to,frozen\n1,3,2,0\n",
         ..TWO
     };
-    assert!(rt; planned(alloc, order)?.notes(Status::Refused, "refused: calendar.csv row 1 column to order"));
+    assert!(rt;
+        planned(alloc, order)?.notes(
+            Status::Refused,
+            "refused: calendar.csv row 1 column to order"
+        )
+    );
     Ok(())
 }
 
@@ -182,9 +191,7 @@ fn no_demand(alloc: Global, stores: u32) -> Result<Vec<u8>, AllocError> {
     for store in 1..=stores {
         for place in 0..20 {
             let (week, rung) = (place / 5 + 1, place % 5 + 1);
-            text.extend_from_slice(
-                format!(in alloc; "s{store},{week},{rung},0,1\n")?.as_bytes(),
-            )?;
+            text.extend_from_slice(format!(in alloc; "s{store},{week},{rung},0,1\n")?.as_bytes())?;
         }
     }
     Ok(text)
@@ -212,9 +219,15 @@ fn chains_fit_their_cells(rt: HostRuntime) -> Result<(), Fail> {
         };
         let answer = planned(alloc, files)?;
         if revenue.is_empty() {
-            assert!(rt; answer.notes(Status::Limit, "limit: cells 16000250"), "{stores}");
+            assert!(rt;
+                answer.notes(Status::Limit, "limit: cells 16000250"),
+                "{stores}"
+            );
         } else {
-            assert!(rt; answer.out.bytes().ends_with(revenue.as_bytes()), "{stores} {first}");
+            assert!(rt;
+                answer.out.bytes().ends_with(revenue.as_bytes()),
+                "{stores} {first}"
+            );
         }
     }
     Ok(())
@@ -238,9 +251,9 @@ fn ordinary_demand(alloc: Global) -> Result<Vec<u8>, AllocError> {
                 let rung = index + 1;
                 let used = if week <= 4 { &early } else { weights };
                 for (units, weight) in used.iter().enumerate() {
-                    text.extend_from_slice(
-                        format!(in alloc; "s{store} , {week},{rung},{units}, {weight}\r\n")?.as_bytes(),
-                    )?;
+                    text.extend_from_slice(format!(in alloc;
+                        "s{store} , {week},{rung},{units}, {weight}\r\n"
+                    )?.as_bytes())?;
                 }
             }
         }
@@ -267,7 +280,9 @@ fn the_ordinary_chain_is_planned(rt: HostRuntime) -> Result<(), Fail> {
     };
     let answer = planned(alloc, files)?;
     assert!(rt;
-        answer.reports(b"season 24 stores 12 weeks 6 rungs base 20\npath 1 1 1 1 1 1 1 1 1 1 1 1\nprices 50.00 50.00 50.00 50.00 50.00 50.00 50.00 50.00 50.00 50.00 50.00 50.00\nrevenue 15600.00000000 15600.00000000\n")
+        answer.reports(
+            b"season 24 stores 12 weeks 6 rungs base 20\npath 1 1 1 1 1 1 1 1 1 1 1 1\nprices 50.00 50.00 50.00 50.00 50.00 50.00 50.00 50.00 50.00 50.00 50.00 50.00\nrevenue 15600.00000000 15600.00000000\n"
+        )
     );
     Ok(())
 }

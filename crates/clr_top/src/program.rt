@@ -68,11 +68,7 @@ fn unread(error: SeasonError) -> Ending
 }
 
 // The season of the folder of which the words ask a plan.
-fn read_asked<H: Shelf>(
-    alloc: Global,
-    words: &[String],
-    shelf: &mut H,
-) -> Result<Season, Ending>
+fn read_asked<H: Shelf>(alloc: Global, words: &[String], shelf: &mut H) -> Result<Season, Ending>
     ensures season { IfOk result (λ s. (ask : Ask) × (asked_plan (map string_bytes words.now) ≡ Ok ask) × IfSome (H.files shelf.old) (λ held. season_in held ask.folder ≡ Ok s)) }
     ensures facts { IfOk result (λ s. IsSeason s) }
     ensures caused { (ending : Ending) → IsErrOf result ending → (out_old out_new : ℕ) → Caused (H.files shelf.old) (map string_bytes words.now) (H.taken shelf.new) (H.faults shelf.old) (H.faults shelf.new) out_old out_new ending }

@@ -7,30 +7,12 @@ use std::rt::Files as RealFiles;
 use std::test::Fail;
 
 const RULES: [(&[u8], &str); 27] = [
-    (
-        b"",
-        "refused: rules.json json",
-    ),
-    (
-        b"[]",
-        "refused: rules.json json",
-    ),
-    (
-        b"4",
-        "refused: rules.json json",
-    ),
-    (
-        b"{\"weeks\":1,\"base\":4",
-        "refused: rules.json json",
-    ),
-    (
-        b"{\"weeks\":1,\"base\":4} x",
-        "refused: rules.json json",
-    ),
-    (
-        b"[[[",
-        "refused: rules.json json",
-    ),
+    (b"", "refused: rules.json json"),
+    (b"[]", "refused: rules.json json"),
+    (b"4", "refused: rules.json json"),
+    (b"{\"weeks\":1,\"base\":4", "refused: rules.json json"),
+    (b"{\"weeks\":1,\"base\":4} x", "refused: rules.json json"),
+    (b"[[[", "refused: rules.json json"),
     (
         b"{\"weeks\":1,\"base\":4,\"x\":\"\xFF\"}",
         "refused: rules.json json",
@@ -39,18 +21,9 @@ const RULES: [(&[u8], &str); 27] = [
         b"{\"weeks\":1,\"base\":4,\"colour\":2}",
         "refused: rules.json field",
     ),
-    (
-        b"{\"colour\":2}",
-        "refused: rules.json field",
-    ),
-    (
-        b"{\"base\":4}",
-        "refused: rules.json weeks missing",
-    ),
-    (
-        b"{\"weeks\":1}",
-        "refused: rules.json base missing",
-    ),
+    (b"{\"colour\":2}", "refused: rules.json field"),
+    (b"{\"base\":4}", "refused: rules.json weeks missing"),
+    (b"{\"weeks\":1}", "refused: rules.json base missing"),
     (
         b"{\"weeks\":0,\"base\":4}",
         "refused: rules.json weeks range",
@@ -118,14 +91,8 @@ const RULES: [(&[u8], &str); 27] = [
 ];
 
 const CALENDARS: [(&[u8], &str); 12] = [
-    (
-        b"",
-        "refused: calendar.csv header",
-    ),
-    (
-        b"week,from,to\n",
-        "refused: calendar.csv header",
-    ),
+    (b"", "refused: calendar.csv header"),
+    (b"week,from,to\n", "refused: calendar.csv header"),
     (
         b"week,from,to,frozen\n1,1,12\n",
         "refused: calendar.csv row 1 fields",
@@ -169,34 +136,16 @@ const CALENDARS: [(&[u8], &str); 12] = [
 ];
 
 const LADDERS: [(&[u8], &str); 20] = [
-    (
-        b"",
-        "refused: ladder.csv header",
-    ),
-    (
-        b"rung,pri",
-        "refused: ladder.csv header",
-    ),
-    (
-        b"price,rung\n1,10.00\n",
-        "refused: ladder.csv header",
-    ),
-    (
-        b"rung,price,x\n",
-        "refused: ladder.csv header",
-    ),
-    (
-        b"rung,price\n",
-        "refused: ladder.csv count 0",
-    ),
+    (b"", "refused: ladder.csv header"),
+    (b"rung,pri", "refused: ladder.csv header"),
+    (b"price,rung\n1,10.00\n", "refused: ladder.csv header"),
+    (b"rung,price,x\n", "refused: ladder.csv header"),
+    (b"rung,price\n", "refused: ladder.csv count 0"),
     (
         b"rung,price\n1,19\n2,18\n3,17\n4,16\n5,15\n6,14\n7,13\n8,12\n9,11\n10,10\n11,9\n12,8\n13,7\n",
         "refused: ladder.csv count 13",
     ),
-    (
-        b"rung,price\n1",
-        "refused: ladder.csv row 1 fields",
-    ),
+    (b"rung,price\n1", "refused: ladder.csv row 1 fields"),
     (
         b"rung,price\nx,10.00\n2\n",
         "refused: ladder.csv row 2 fields",
@@ -252,18 +201,12 @@ const LADDERS: [(&[u8], &str); 20] = [
 ];
 
 const STOCKS: [(&[u8], &str); 15] = [
-    (
-        b"",
-        "refused: stock.csv header",
-    ),
+    (b"", "refused: stock.csv header"),
     (
         b"store,units,salvage,relabel\na,1,2.00,0\n",
         "refused: stock.csv header",
     ),
-    (
-        b"store,units,salvage\n",
-        "refused: stock.csv count 0",
-    ),
+    (b"store,units,salvage\n", "refused: stock.csv count 0"),
     (
         b"store,units,salvage\ns1,1,1\ns2,1,1\ns3,1,1\ns4,1,1\ns5,1,1\ns6,1,1\ns7,1,1\ns8,1,1\ns9,1,1\ns10,1,1\ns11,1,1\ns12,1,1\ns13,1,1\ns14,1,1\ns15,1,1\ns16,1,1\ns17,1,1\ns18,1,1\ns19,1,1\ns20,1,1\ns21,1,1\ns22,1,1\ns23,1,1\ns24,1,1\ns25,1,1\ns26,1,1\ns27,1,1\ns28,1,1\ns29,1,1\ns30,1,1\ns31,1,1\ns32,1,1\ns33,1,1\ns34,1,1\ns35,1,1\ns36,1,1\ns37,1,1\ns38,1,1\ns39,1,1\ns40,1,1\ns41,1,1\ns42,1,1\ns43,1,1\ns44,1,1\ns45,1,1\ns46,1,1\ns47,1,1\ns48,1,1\ns49,1,1\ns50,1,1\ns51,1,1\ns52,1,1\ns53,1,1\ns54,1,1\ns55,1,1\ns56,1,1\ns57,1,1\ns58,1,1\ns59,1,1\ns60,1,1\ns61,1,1\ns62,1,1\ns63,1,1\ns64,1,1\ns65,1,1\n",
         "refused: stock.csv count 65",
@@ -315,14 +258,8 @@ const STOCKS: [(&[u8], &str); 15] = [
 ];
 
 const DEMANDS: [(&[u8], &str); 14] = [
-    (
-        b"",
-        "refused: demand.csv header",
-    ),
-    (
-        b"store,week,rung,units\n",
-        "refused: demand.csv header",
-    ),
+    (b"", "refused: demand.csv header"),
+    (b"store,week,rung,units\n", "refused: demand.csv header"),
     (
         b"store,week,rung,units,weight\nb,1,1,0,1\na,1,1,0\n",
         "refused: demand.csv row 2 fields",

@@ -19,7 +19,7 @@ returns-in_err-limits-clause-gives g c =
 pub returns-in_err-calendar-clause-gives : goal.returns-in_err-calendar-clause-gives
 returns-in_err-calendar-clause-gives g c =
     let failed : IfSome (g.H.Shelf.files c.args.shelf.now) (λ held. Gives {X = List Window} {Y = List Window} (λ x. x) (Err c.in_err-calendar.field-0.0) (calendar_in held c.args.folder.now c.in_ok-limits.limits)) =
-        rw c.in_ok-limits.ensures.files at c.in_err-calendar.ensures.gives in
+    rw c.in_ok-limits.ensures.files at c.in_err-calendar.ensures.gives in
     let of : (file : File) → c.in_err-calendar.field-0.0 ≡ Read file → file ≡ f.Calendar = λ file is. (c.in_err-calendar.ensures.read file (rw is refl)).0 in
     let same : c.from_residual-in_err-calendar.result ≡ Err c.in_err-calendar.field-0.0 = search rules in
     rw same (calendar-error (g.H.Shelf.files c.args.shelf.now) c.args.folder.now c.in_ok-limits.limits c.in_err-calendar.field-0.0 c.in_ok-limits.ensures.gives failed of)
@@ -28,7 +28,7 @@ pub returns-in_err-ladder-clause-gives : goal.returns-in_err-ladder-clause-gives
 returns-in_err-ladder-clause-gives g c =
     let calendar : IfSome (g.H.Shelf.files c.args.shelf.now) (λ held. calendar_in held c.args.folder.now c.in_ok-limits.limits ≡ Ok c.in_ok-calendar.calendar) = rw c.in_ok-limits.ensures.files at c.in_ok-calendar.ensures.gives in
     let failed : IfSome (g.H.Shelf.files c.args.shelf.now) (λ held. Gives {X = List ℕ} {Y = List ℕ} (λ x. x) (Err c.in_err-ladder.field-0.0) (prices_in held c.args.folder.now)) =
-        rw (c.in_ok-calendar.ensures.files, c.in_ok-limits.ensures.files) at c.in_err-ladder.ensures.gives in
+    rw (c.in_ok-calendar.ensures.files, c.in_ok-limits.ensures.files) at c.in_err-ladder.ensures.gives in
     let of : (file : File) → c.in_err-ladder.field-0.0 ≡ Read file → file ≡ f.Ladder = λ file is. (c.in_err-ladder.ensures.read file (rw is refl)).0 in
     let same : c.from_residual-in_err-ladder.result ≡ Err c.in_err-ladder.field-0.0 = search rules in
     rw same (ladder-error (g.H.Shelf.files c.args.shelf.now) c.args.folder.now c.in_ok-limits.limits c.in_ok-calendar.calendar c.in_err-ladder.field-0.0 c.in_ok-limits.ensures.gives calendar failed of)
@@ -38,7 +38,7 @@ returns-in_err-stock-clause-gives g c =
     let calendar : IfSome (g.H.Shelf.files c.args.shelf.now) (λ held. calendar_in held c.args.folder.now c.in_ok-limits.limits ≡ Ok c.in_ok-calendar.calendar) = rw c.in_ok-limits.ensures.files at c.in_ok-calendar.ensures.gives in
     let ladder : IfSome (g.H.Shelf.files c.args.shelf.now) (λ held. prices_in held c.args.folder.now ≡ Ok c.in_ok-ladder.ladder) = rw (c.in_ok-calendar.ensures.files, c.in_ok-limits.ensures.files) at c.in_ok-ladder.ensures.gives in
     let failed : IfSome (g.H.Shelf.files c.args.shelf.now) (λ held. Gives {X = List Store} {Y = List Store} (λ x. x) (Err c.in_err-stock.field-0.0) (stores_in held c.args.folder.now c.in_ok-limits.limits)) =
-        rw (c.in_ok-ladder.ensures.files, c.in_ok-calendar.ensures.files, c.in_ok-limits.ensures.files) at c.in_err-stock.ensures.gives in
+    rw (c.in_ok-ladder.ensures.files, c.in_ok-calendar.ensures.files, c.in_ok-limits.ensures.files) at c.in_err-stock.ensures.gives in
     let of : (file : File) → c.in_err-stock.field-0.0 ≡ Read file → file ≡ f.Stock = λ file is. (c.in_err-stock.ensures.read file (rw is refl)).0 in
     let same : c.from_residual-in_err-stock.result ≡ Err c.in_err-stock.field-0.0 = search rules in
     rw same (stock-error (g.H.Shelf.files c.args.shelf.now) c.args.folder.now c.in_ok-limits.limits c.in_ok-calendar.calendar c.in_ok-ladder.ladder c.in_err-stock.field-0.0 c.in_ok-limits.ensures.gives calendar ladder failed of)
@@ -48,9 +48,9 @@ returns-in_err-demand-clause-gives g c =
     let calendar : IfSome (g.H.Shelf.files c.args.shelf.now) (λ held. calendar_in held c.args.folder.now c.in_ok-limits.limits ≡ Ok c.in_ok-calendar.calendar) = rw c.in_ok-limits.ensures.files at c.in_ok-calendar.ensures.gives in
     let ladder : IfSome (g.H.Shelf.files c.args.shelf.now) (λ held. prices_in held c.args.folder.now ≡ Ok c.in_ok-ladder.ladder) = rw (c.in_ok-calendar.ensures.files, c.in_ok-limits.ensures.files) at c.in_ok-ladder.ensures.gives in
     let stock : IfSome (g.H.Shelf.files c.args.shelf.now) (λ held. stores_in held c.args.folder.now c.in_ok-limits.limits ≡ Ok c.in_ok-stock.stock) =
-        rw (c.in_ok-ladder.ensures.files, c.in_ok-calendar.ensures.files, c.in_ok-limits.ensures.files) at c.in_ok-stock.ensures.gives in
+    rw (c.in_ok-ladder.ensures.files, c.in_ok-calendar.ensures.files, c.in_ok-limits.ensures.files) at c.in_ok-stock.ensures.gives in
     let failed : IfSome (g.H.Shelf.files c.args.shelf.now) (λ held. Gives {X = DemandWeights} {Y = DemandWeights} (λ x. x) (Err c.in_err-demand.field-0.0) (weights_in held c.args.folder.now c.in_ok-limits.limits c.in_ok-ladder.ladder c.in_ok-stock.stock)) =
-        rw (c.in_ok-stock.ensures.files, c.in_ok-ladder.ensures.files, c.in_ok-calendar.ensures.files, c.in_ok-limits.ensures.files) at c.in_err-demand.ensures.gives in
+    rw (c.in_ok-stock.ensures.files, c.in_ok-ladder.ensures.files, c.in_ok-calendar.ensures.files, c.in_ok-limits.ensures.files) at c.in_err-demand.ensures.gives in
     let of : (file : File) → c.in_err-demand.field-0.0 ≡ Read file → file ≡ f.Demand = λ file is. (c.in_err-demand.ensures.read file (rw is refl)).0 in
     let same : c.from_residual-in_err-demand.result ≡ Err c.in_err-demand.field-0.0 = search rules in
     rw same (demand-error (g.H.Shelf.files c.args.shelf.now) c.args.folder.now c.in_ok-limits.limits c.in_ok-calendar.calendar c.in_ok-ladder.ladder c.in_ok-stock.stock c.in_err-demand.field-0.0 c.in_ok-limits.ensures.gives calendar ladder stock failed of)

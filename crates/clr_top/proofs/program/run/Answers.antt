@@ -37,7 +37,7 @@ returns-in-Err-clause-exact g c =
 pub returns-in-Err-clause-complete : goal.returns-in-Err-clause-complete
 returns-in-Err-clause-complete g c = λ held told is calm_shelf calm_out.
     let exact : IfSome (Some held) (λ files. Exactly c.ending_status.result (planned files (map string_bytes c.args.words.now))) =
-        rw told at (exactly-told (g.H.Shelf.files c.args.shelf.now) (map string_bytes c.args.words.now) (g.H.Shelf.taken c.work.new.shelf) (g.H.Shelf.faults c.args.shelf.now) (g.H.Shelf.faults c.work.new.shelf) (g.O.Sink.faults c.args.out.now)
-            (g.O.Sink.faults c.work.new.out) c.in-Err.ending c.ending_status.result c.ending_status.ensures (c.in-Err.ensures.caused c.in-Err.ending refl)) in
+    rw told at (exactly-told (g.H.Shelf.files c.args.shelf.now) (map string_bytes c.args.words.now) (g.H.Shelf.taken c.work.new.shelf) (g.H.Shelf.faults c.args.shelf.now) (g.H.Shelf.faults c.work.new.shelf) (g.O.Sink.faults c.args.out.now)
+    (g.O.Sink.faults c.work.new.out) c.in-Err.ending c.ending_status.result c.ending_status.ensures (c.in-Err.ensures.caused c.in-Err.ending refl)) in
     only-memory c.ending_status.result (planned held (map string_bytes c.args.words.now)) (Rose (g.H.Shelf.faults c.args.shelf.now) (g.H.Shelf.faults c.work.new.shelf)) (Rose (g.O.Sink.faults c.args.out.now) (g.O.Sink.faults c.work.new.out)) exact is
     (returns-in-Err-clause-read g c) (returns-in-Err-clause-write g c) calm_shelf calm_out
