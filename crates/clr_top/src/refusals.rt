@@ -1,6 +1,7 @@
 // Files that are refused: each with its note, the first refusal in the order of the files, rows and columns.
 use crate::cases::{Files, SMALLEST, TWO_WEEKS, planned, planned_on_disk};
 use crate::ending::Status;
+use clr_season::File;
 use std::alloc::Global;
 use std::fs;
 use std::rt::Files as RealFiles;
@@ -355,7 +356,34 @@ const VERSIONS: [(Files<'static>, &str); 5] = [
     ),
 ];
 
-// Each case over the memory and over a real folder: the file that differs from the smallest season's, and the note.
+// The smallest season with other bytes in one of its files.
+fn with(file: File, bytes: &[u8]) -> Files<'_> {
+    match file {
+        File::Rules => Files {
+            rules: bytes,
+            ..SMALLEST
+        },
+        File::Calendar => Files {
+            rules: b"{\"weeks\":1,\"base\":4,\"calendar\":true}",
+            calendar: bytes,
+            ..SMALLEST
+        },
+        File::Ladder => Files {
+            ladder: bytes,
+            ..SMALLEST
+        },
+        File::Stock => Files {
+            stock: bytes,
+            ..SMALLEST
+        },
+        File::Demand => Files {
+            demand: bytes,
+            ..SMALLEST
+        },
+    }
+}
+
+// Over the memory and over a real folder the files are refused with this note.
 fn is_refused(
     rt: &impl RealFiles,
     alloc: Global,
@@ -367,34 +395,30 @@ fn is_refused(
     Ok(told.notes(Status::Refused, note) && on_disk.notes(Status::Refused, note))
 }
 
+const FILES: [(File, &[(&[u8], &str)]); 5] = [
+    (File::Rules, &RULES),
+    (File::Calendar, &CALENDARS),
+    (File::Ladder, &LADDERS),
+    (File::Stock, &STOCKS),
+    (File::Demand, &DEMANDS),
+];
+
 #[test]
 fn first_refusals_are_told(rt: HostRuntime) -> Result<(), Fail> {
     let alloc = rt.alloc();
     fs::create_dir(&rt, "f")?;
-    for (rules, note) in RULES {
-        let files = Files { rules, ..SMALLEST };
-        assert!(rt; is_refused(&rt, alloc, files, note)?, "{note}");
+    for (file, cases) in FILES {
+        for (bytes, note) in cases {
+            assert!(rt; is_refused(&rt, alloc, with(file, bytes), note)?, "{note}");
+        }
     }
-    for (calendar, note) in CALENDARS {
-        let files = Files {
-            rules: b"{\"weeks\":1,\"base\":4,\"calendar\":true}",
-            calendar,
-            ..SMALLEST
-        };
-        assert!(rt; is_refused(&rt, alloc, files, note)?, "{note}");
-    }
-    for (ladder, note) in LADDERS {
-        let files = Files { ladder, ..SMALLEST };
-        assert!(rt; is_refused(&rt, alloc, files, note)?, "{note}");
-    }
-    for (stock, note) in STOCKS {
-        let files = Files { stock, ..SMALLEST };
-        assert!(rt; is_refused(&rt, alloc, files, note)?, "{note}");
-    }
-    for (demand, note) in DEMANDS {
-        let files = Files { demand, ..SMALLEST };
-        assert!(rt; is_refused(&rt, alloc, files, note)?, "{note}");
-    }
+    Ok(())
+}
+
+#[test]
+fn later_versions_are_told(rt: HostRuntime) -> Result<(), Fail> {
+    let alloc = rt.alloc();
+    fs::create_dir(&rt, "f")?;
     for (files, note) in VERSIONS {
         assert!(rt; is_refused(&rt, alloc, files, note)?, "{note}");
     }

@@ -8,6 +8,7 @@ const LADDER: [u64; 4] = [5_000, 4_500, 4_000, 3_500];
 
 // Four weeks in which a price may fall in any way.
 const FREE: Limits = Limits {
+    version: 1,
     weeks: 4,
     base: 1,
     markdowns: 12,
