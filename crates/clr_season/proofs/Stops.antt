@@ -1,22 +1,20 @@
 -- What stands against a season: each file's own, and then what comes behind it.
 use Rattle.std.proofs.Common.{◌≡◌, ◌≤◌, refl, ℕ, List, arith, true, false, Bool}
-use Rattle.std.specs.Prelude.{Option, Some, None, Result, Ok, Err, IfSome, MatchResult, nat_le, length, map, if◌then◌else◌}
+use Rattle.std.specs.Prelude.{Option, Some, None, Result, Ok, Err, IfSome, MatchResult, nat_le, length, if◌then◌else◌}
 use Rattle.clr_io.specs.Files.{Files, held}
 use Rattle.clr_text.specs.Tables.{Refusal}
 use Rattle.clr_rules.specs.Calendar.{calendar_of}
 use Rattle.clr_rules.specs.Rules.{free_weeks, rulebook_of}
 use Rattle.clr_rules.specs.declared.limits.Limits.{Limits}
 use Rattle.clr_rules.specs.declared.season_rules.Window.{Window}
-use Rattle.clr_stock.specs.Ladder.{ladder_of}
-use Rattle.clr_stock.specs.Stock.{Store, stock_of}
-use Rattle.clr_demand.specs.Demand.{demand_of}
+use Rattle.clr_stock.specs.Stock.{Store}
 use Rattle.clr_demand.specs.Weights.{DemandWeights}
 use Rattle.clr_season.specs.Season.{Season, cells, most_cells}
 use Rattle.clr_season.specs.declared.reads.File.{File}
 use Rattle.clr_season.specs.declared.reads.File.TheVariants as f
 use Rattle.clr_season.specs.declared.reads.SeasonError.{SeasonError}
 use Rattle.clr_season.specs.declared.reads.SeasonError.TheVariants.{Read, Absent, TooLong, Refused, Cells, Memory}
-use Rattle.clr_season.specs.Reads.{◌>>=◌, Gives, ReachesFile, Stop, calendar_in, fetched, limits_in, most_bytes, path_of, place_of, prices_in, read_as, season_in, season_within, short_enough, stop_place, stores_in, too_long, too_many_cells, weights_in}
+use Rattle.clr_season.specs.Reads.{◌>>=◌, Gives, Stop, calendar_in, fetched, limits_in, most_bytes, path_of, place_of, prices_in, read_as, season_in, season_within, short_enough, stop_place, stores_in, too_long, too_many_cells, weights_in}
 
 -- what stands against it, if anything does, stands at this place or behind it
 abbrev pub StopsFrom : {A : Type 0} → ℕ → Result A Stop → Type 0

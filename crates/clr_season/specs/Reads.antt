@@ -1,5 +1,5 @@
 -- What the files of a folder read to: a season, or what stands against one first, in the order of the files.
-use Rattle.std.specs.Prelude.{◌≡◌, ◌≤◌, ◌++◌, ◌∷◌, ◌==◌, ℕ, Bool, nat_le, length, map, List, codes, Option, Some, None, Result, Ok, Err, MatchResult, IfSome, if◌then◌else◌}
+use Rattle.std.specs.Prelude.{◌≡◌, ◌≤◌, ◌++◌, ◌∷◌, ◌==◌, ℕ, Bool, nat_le, length, map, List, codes, Option, Some, None, Result, Ok, Err, MatchResult, if◌then◌else◌}
 use Rattle.clr_io.specs.Files.{Files, held}
 use Rattle.clr_text.specs.Tables.{Refusal}
 use Rattle.clr_text.specs.declared.file.FileError.{FileError}

@@ -1,5 +1,5 @@
 -- How runs end.
-use Rattle.std.proofs.Common.{◌≡◌, ◌≤◌, ◌<◌, inl, inr, refl, sym, ◌∙◌, ap, arith, ℕ, List, [], Some, None, Bool, true, false}
+use Rattle.std.proofs.Common.{◌≡◌, ◌<◌, inl, inr, refl, arith, ℕ, List, [], Some, None, Bool, true, false}
 use Rattle.std.specs.Prelude.{◌⊎◌, ◌↔◌, IfSome, IsOk, IsTrue, Option, Result, Ok, Err, codes, if◌then◌else◌}
 use Rattle.clr_io.specs.Causes.{Rose}
 use Rattle.clr_io.specs.Files.{Files}
@@ -15,13 +15,11 @@ use Rattle.clr_season.specs.Season.{Season}
 use Rattle.clr_season.specs.declared.reads.File.{File}
 use Rattle.clr_season.specs.declared.reads.SeasonError.{SeasonError}
 use Rattle.clr_season.specs.declared.reads.SeasonError.TheVariants as e
-use Rattle.clr_report.specs.declared.note.Cause.{Cause}
 use Rattle.clr_report.specs.declared.note.Cause.TheVariants.{Words, Refused, NoPath, ReadFault, Absent, WriteFault, TooLong, Cells, Memory}
 use Rattle.clr_report.specs.declared.note.Doc.{Doc}
 use Rattle.clr_report.specs.declared.note.Doc.TheVariants as d
 use Rattle.clr_top.specs.declared.ending.Ending.{Ending}
 use Rattle.clr_top.specs.declared.ending.Ending.TheVariants.{By, NotYet}
-use Rattle.clr_top.specs.declared.ending.Word.{Word}
 use Rattle.clr_top.specs.declared.ending.Word.TheVariants as w
 use Rattle.clr_top.specs.declared.ending.Status.{Status}
 use Rattle.clr_top.specs.declared.ending.Status.TheVariants as s

@@ -1,11 +1,10 @@
 -- What the report of a season's plan says.
 use Rattle.std.proofs.Common.{◌≡◌, ℕ, ℤ, List, sym}
-use Rattle.clr_num.specs.Rounding.{ceil, floor}
 use Rattle.clr_rules.specs.FirstPath.{IsFirstObeying}
 use Rattle.clr_rules.specs.Rules.{IsPath}
 use Rattle.clr_season.specs.Season.{IsSeason, Season}
 use Rattle.clr_model.specs.Laws.{IsInterval}
-use Rattle.clr_model.specs.PathValue.{path_high, path_low, path_total}
+use Rattle.clr_model.specs.PathValue.{path_high, path_low}
 use Rattle.clr_model.proofs.PathBounds.{path_enclosed_lem}
 use Rattle.clr_report.specs.PlanText.{plan_text}
 use Rattle.clr_top.specs.Runs.{IsPlan, OfPlan}

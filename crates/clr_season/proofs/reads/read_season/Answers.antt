@@ -6,7 +6,7 @@ use Rattle.clr_demand.specs.Weights.{DemandWeights}
 use Rattle.clr_season.specs.declared.reads.File.{File}
 use Rattle.clr_season.specs.declared.reads.File.TheVariants as f
 use Rattle.clr_season.specs.declared.reads.SeasonError.TheVariants.{Read}
-use Rattle.clr_season.specs.Reads.{Gives, calendar_in, limits_in, prices_in, stores_in, weights_in}
+use Rattle.clr_season.specs.Reads.{Gives, calendar_in, prices_in, stores_in, weights_in}
 use Rattle.clr_season.proofs.Stops.{calendar-error, demand-error, ladder-error, limits-error, stock-error}
 use Rattle.clr_season.proofs.reads.read_season.Goals as goal
 

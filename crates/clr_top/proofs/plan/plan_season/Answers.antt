@@ -1,4 +1,4 @@
-use Rattle.std.proofs.Common.{◌≡◌, ◌∙◌, ◌<◌, inr, sym, length, rules, Bool, false}
+use Rattle.std.proofs.Common.{◌≡◌, ◌∙◌, ◌<◌, inr, sym, length, rules, false}
 use Rattle.std.specs.Prelude.{◌↔◌}
 use Rattle.clr_rules.specs.FirstPath.{SomePathObeys}
 use Rattle.clr_report.specs.declared.note.Cause.TheVariants.{NoPath}

@@ -1,5 +1,5 @@
-use Rattle.std.proofs.Common.{◌≡◌, ◌∙◌, sym, ap, refl, map, string_bytes, Some, None, Option}
-use Rattle.std.specs.Prelude.{Err, IfSome, IsOk}
+use Rattle.std.proofs.Common.{◌∙◌, sym, ap, refl, map, string_bytes, Some}
+use Rattle.std.specs.Prelude.{Err, IfSome}
 use Rattle.std.specs.Io.KnownBytes.{Appends}
 use Rattle.clr_io.specs.Causes.{Rose}
 use Rattle.clr_top.specs.Runs.{Exactly, planned}
