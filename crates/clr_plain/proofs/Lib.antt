@@ -1,0 +1,4 @@
+pub mod Outcomes
+pub mod Chances
+pub mod Sales
+pub mod Totals
