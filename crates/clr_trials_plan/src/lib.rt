@@ -4,4 +4,6 @@
 #[cfg(test)]
 mod notes;
 #[cfg(test)]
+mod outcomes;
+#[cfg(test)]
 mod values;
