@@ -1,5 +1,5 @@
 -- The table after a step.
-use Rattle.std.proofs.Common.{◌≡◌, ℕ, suc, ◌+◌, ◌-◌, ◌*◌, ◌<◌, ℤ, pos, ◌-ℤ◌, ◌*ℤ◌, List, length, map, replicate, get_or, sum, sym, subst, ap, ap₂, ◌∙◌, arith}
+use Rattle.std.proofs.Common.{◌≡◌, ℕ, suc, ◌+◌, ◌-◌, ◌*◌, ◌<◌, ◌≤◌, ℤ, pos, ◌-ℤ◌, ◌*ℤ◌, List, length, map, replicate, get_or, sum, sym, subst, ap, ap₂, ◌∙◌, arith}
 use Rattle.std.proofs.lemmas.Int.{ints}
 use Rattle.std.proofs.lemmas.List.{ext_get_or}
 use Rattle.clr_num.specs.Lists.{numbers}
@@ -10,7 +10,7 @@ use Rattle.clr_mult.specs.Tables.{EachEntry, SameSizes, Table, Within, mult_at, 
 use Rattle.clr_mult.proofs.Directions.{directions_small, directions_vanish}
 use Rattle.clr_mult.proofs.Lists.{get_or-numbers, length-numbers}
 use Rattle.clr_mult.proofs.Places.{found, listed_is, repeated_at, row_inside, store_inside}
-use Rattle.clr_mult.proofs.Products.{small_product}
+use Rattle.clr_mult.proofs.Products.{small_moved, small_product}
 use Rattle.clr_mult.proofs.RowLemmas.{get_or-row_at, length-row_at}
 use Rattle.clr_mult.proofs.Sums.{sum_of-constant, sum_of-moved, sum_of-same}
 
@@ -82,7 +82,6 @@ module _ (q : ℕ) (usage : Table ℕ) (table : Table ℤ) (after : List ℤ) (i
     (rows : AreRowsMoved q table.stores (table.weeks * table.rungs) usage.entries table.entries after) where
   pub step_entries : EachEntry table (λ store week rung. mult_at (with_entries table after) store week rung ≡ mult_at table store week rung -ℤ pos q *ℤ direction usage store week rung)
   step_entries store week rung w =
-      let row : ℕ = row_of table.rungs week rung in
       let here : store - 1 < table.stores = store_inside table.stores table.weeks table.rungs store week rung w in
       rows.done (row_of table.rungs week rung) (store - 1) (row_inside table.stores table.weeks table.rungs store week rung w) here
       ∙ ap₂ (λ e d. e -ℤ pos q *ℤ d) (get_or-row_at table.stores (row_of table.rungs week rung) (store - 1) table.entries (pos 0) here)
@@ -106,3 +105,10 @@ module _ (q : ℕ) (usage : Table ℕ) (table : Table ℤ) (after : List ℤ) (i
         (subst (λ n. sum_of n (λ i. direction usage (suc i) week rung) ≡ pos 0) (sym same.stores) (directions_vanish usage used.0.sizes.stores_from week rung p (omega (arith, same.weeks, q')) r (omega (arith, same.rungs, s))))
         (λ i h. step_entries (suc i) week rung (record { store_from = omega arith; store_to = omega (arith, h); week_from = p; week_to = q'; rung_from = r; rung_to = s })),
   )
+
+-- the entries of a run: no larger than before the step by more than the step takes them
+pub run_small : (q most limit : ℕ) (usage : Table ℕ) (table next : Table ℤ) → next ≡ stepped q usage table → EachEntry table (λ store week rung. IsSmall most (mult_at table store week rung)) →
+    EachEntry table (λ store week rung. IsSmall (q * 1000000) (mult_at next store week rung -ℤ mult_at table store week rung)) → most + q * 1000000 ≤ limit → EachEntry next (λ store week rung. IsSmall limit (mult_at next store week rung))
+run_small q most limit usage table next is was near fits store week rung within =
+    let inside : Within table.stores table.weeks table.rungs store week rung = subst (λ (t : Table ℤ). Within t.stores t.weeks t.rungs store week rung) is within in
+    small_moved most (q * 1000000) limit (mult_at table store week rung) (mult_at next store week rung) (was store week rung inside) (near store week rung inside) fits
