@@ -6,3 +6,7 @@ pub mod Sums
 pub mod Weeks
 pub mod Steps
 pub mod PathBounds
+pub mod Abiding
+pub mod Best
+pub mod BySummary
+pub mod StoreBounds

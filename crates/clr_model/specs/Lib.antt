@@ -4,4 +4,6 @@ pub mod Expected
 pub mod PathValue
 pub mod JointWeek
 pub mod Laws
+pub mod StoreValue
+pub mod StoreLaws
 pub mod Weights
