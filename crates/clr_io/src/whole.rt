@@ -6,20 +6,25 @@ ghost use Rattle.clr_io.specs.Files.{held};
 
 use crate::{Failed, Shelf, Sink};
 use std::alloc::{AllocError, Global};
+use thiserror::Error;
 
 /// Why a file was not read whole.
-#[derive(Clone, Copy, Debug, PartialEq, Eq)]
+#[derive(Clone, Copy, Debug, PartialEq, Eq, Error)]
 pub enum ReadError {
     /// The shelf failed.
+    #[error("the file could not be read")]
     Failed,
     /// The shelf holds no file of that name.
+    #[error("there is no such file")]
     Absent,
     /// More than `max` bytes were taken.
+    #[error("the file has more than {max} bytes")]
     TooLong {
         /// The limit that was passed, in bytes.
         max: u64,
     },
     /// Memory was wanting.
+    #[error("out of memory")]
     Memory,
 }
 

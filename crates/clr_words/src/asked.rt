@@ -1,4 +1,5 @@
 // What is asked, and why nothing is.
+use thiserror::Error;
 
 /// What is to be done with the season of a folder.
 #[derive(Clone, Copy, Debug, PartialEq, Eq)]
@@ -35,10 +36,12 @@ pub struct Asked {
 }
 
 /// Why there is no answer to what the words ask.
-#[derive(Clone, Copy, Debug, PartialEq, Eq)]
+#[derive(Clone, Copy, Debug, PartialEq, Eq, Error)]
 pub enum WordsError {
     /// The words ask nothing: `clap` refuses them, or the job is none of the four.
+    #[error("the words ask nothing")]
     Faulty,
     /// Memory was wanting.
+    #[error("out of memory")]
     Memory,
 }
