@@ -6,3 +6,4 @@ pub mod Sums
 pub mod Weeks
 pub mod Steps
 pub mod PathBounds
+pub mod Markdowns

@@ -9,7 +9,8 @@ mod path;
 mod week;
 
 pub use laws::{
-    chances_sum, one_store_split_off, one_week_split_off, path_enclosed, sold_in_a_week,
+    chances_sum, markdowns_counted, one_store_split_off, one_week_split_off, path_enclosed,
+    sold_in_a_week,
 };
 pub use path::Path;
 pub use week::{CENT, average_week, gain, relabelling};
