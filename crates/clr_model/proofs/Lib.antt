@@ -10,3 +10,4 @@ pub mod Abiding
 pub mod Best
 pub mod BySummary
 pub mod StoreBounds
+pub mod Markdowns

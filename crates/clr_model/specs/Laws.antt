@@ -1,10 +1,10 @@
 -- The laws of the model: each stands on the contract of a public function.
 use Rattle.std.specs.Prelude.{◌≡◌, ℕ, suc, ◌+◌, ◌-◌, ◌*◌, ◌≤◌, ◌^◌, min, ℤ, pos, ◌+ℤ◌, ◌*ℤ◌, ◌≤ℤ◌, List, length, get_or}
 use Rattle.clr_num.specs.Sums.{sum_over}
-use Rattle.clr_rules.specs.Rules.{IsPath}
+use Rattle.clr_rules.specs.Rules.{IsPath, markdowns}
 use Rattle.clr_season.specs.Season.{Season, IsSeason, demands, weight}
 use Rattle.clr_model.specs.Policies.{Tree, node, branch, joint_demands, outcomes, IsWhole, const_tree}
-use Rattle.clr_model.specs.Revenue.{sum_stores, of_store, week_cents, sold, stocks_left}
+use Rattle.clr_model.specs.Revenue.{sum_stores, of_store, week_cents, sold, stocks_left, markdowns_after}
 use Rattle.clr_model.specs.Expected.{week_chance, chance, den, earned, Encloses}
 use Rattle.clr_model.specs.PathValue.{path_low, path_high}
 
@@ -36,6 +36,10 @@ abbrev pub SoldInAWeek : Type 0
 SoldInAWeek =
     (stock : ℕ) (asked : List ℕ) (weeks : ℕ) → weeks + 1 ≤ length asked →
     sold stock asked (weeks + 1) - sold stock asked weeks ≡ min (stock - sold stock asked weeks) (get_or asked weeks 0)
+
+-- the markdown weeks that a store pays for along a path, after rung 1, are the path's
+abbrev pub MarkdownsCounted : Type 0
+MarkdownsCounted = (path : List ℕ) → markdowns_after 1 path ≡ markdowns path
 
 -- Two numbers, in units, between which what a path earns in expectation lies, and at most a unit apart for each store and week.
 pub record IsInterval (season : Season) (path : List ℕ) (low high : ℤ) : Type 0 where

@@ -1,5 +1,5 @@
 // Laws of the definitions. Each is the contract of a function that does nothing.
-ghost use Rattle.clr_model.specs.Laws.{ChancesSum, OneStoreSplitOff, OneWeekSplitOff, PathEnclosed, SoldInAWeek};
+ghost use Rattle.clr_model.specs.Laws.{ChancesSum, MarkdownsCounted, OneStoreSplitOff, OneWeekSplitOff, PathEnclosed, SoldInAWeek};
 
 /// The chances of the outcomes of a whole tree sum to the denominator.
 pub fn chances_sum()
@@ -21,6 +21,11 @@ pub fn one_store_split_off()
 /// What a store sells in a week is what is asked for in it, and at most what was left of its stock.
 pub fn sold_in_a_week()
     ensures { SoldInAWeek }
+{}
+
+/// The markdown weeks that a store pays for along a path are the path's.
+pub fn markdowns_counted()
+    ensures { MarkdownsCounted }
 {}
 
 /// What a path earns in expectation lies between its low and its high value, and these lie at most a unit for each store and

@@ -10,7 +10,8 @@ mod store_laws;
 mod week;
 
 pub use laws::{
-    chances_sum, one_store_split_off, one_week_split_off, path_enclosed, sold_in_a_week,
+    chances_sum, markdowns_counted, one_store_split_off, one_week_split_off, path_enclosed,
+    sold_in_a_week,
 };
 pub use clr_rules::same_summary_same_rest;
 pub use path::Path;

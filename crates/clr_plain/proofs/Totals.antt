@@ -1,8 +1,8 @@
 -- Sums of revenue, and of chance times revenue, at the widths of the code.
-use Rattle.std.proofs.Common.{◌≡◌, ◌⊎◌, inl, inr, ℕ, zero, suc, ◌+◌, ◌-◌, ◌*◌, ◌^◌, ◌<◌, ◌≤◌, ℤ, pos, neg_ℤ, ◌+ℤ◌, ◌-ℤ◌, ◌*ℤ◌, ◌≤ℤ◌, List, [], ◌∷◌, ◌++◌, get_or, length, take, refl, sym, ap, ap₂, ◌∙◌, subst, arith, add-one, mul_comm, mul-le-mul, to_z, of_z, SFits, take_at}
+use Rattle.std.proofs.Common.{◌≡◌, ◌⊎◌, inl, inr, ℕ, zero, suc, ◌+◌, ◌-◌, ◌*◌, ◌^◌, ◌<◌, ◌≤◌, ℤ, pos, neg_ℤ, ◌+ℤ◌, ◌-ℤ◌, ◌*ℤ◌, ◌≤ℤ◌, List, [], ◌∷◌, ◌++◌, get_or, length, take, refl, sym, ap, ap₂, ◌∙◌, subst, arith, add-one, mul_comm, mul-le-mul, to_z, of_z, SFits, take_at, set, length-set}
 use Rattle.std.proofs.lemmas.Bool.{cases_lt}
 use Rattle.std.proofs.lemmas.Int.{ints, to_z-of_z}
-use Rattle.std.proofs.lemmas.List.{get_or-take, length-take-le}
+use Rattle.std.proofs.lemmas.List.{get_or-take, length-take-le, take_more_set}
 use Rattle.std.proofs.Math.ListN.{get_or-append}
 use Rattle.std.proofs.Math.Seq.{get_or-append_seam}
 use mir.Syntax.{w64, w128}
@@ -94,6 +94,19 @@ bounded_fits mass value h small =
 
 -- ---- one place of the list of demands
 
+-- the list with this demand at this place, and before it as it was
+pub record IsNext (season : Season) (old : List ℕ) (place : ℕ) (asked : List ℕ) (d : ℕ) : Type 0 where
+  pub size : length asked ≡ length old
+  pub begun : take (place + 1) asked ≡ take place old ++ d ∷ []
+  pub held : d ≤ season.top
+
+pub next_is : (season : Season) (old before : List ℕ) (place d : ℕ) → place < length old → length before ≡ length old → take place before ≡ take place old → d ≤ season.top → IsNext season old place (set before place d) d
+next_is season old before place d inside size begun held = record {
+  size = length-set before place d ∙ size;
+  begun = take_more_set before place d (omega (arith, inside, size)) ∙ ap (λ l. l ++ d ∷ []) begun;
+  held = held;
+}
+
 module _ (season : Season) (path old : List ℕ) (place : ℕ) (inside : place < length old) where
   abbrev rest : ℕ
   rest = length old - (place + 1)
@@ -107,10 +120,10 @@ module _ (season : Season) (path old : List ℕ) (place : ℕ) (inside : place <
   pub all_at : (f : List ℕ → ℤ) → sum_over (numbers 0 (suc season.top)) (λ d. sum_after season f rest (take place old ++ d ∷ [])) ≡ sum_after season f (length old - place) (take place old)
   all_at f = let next : suc rest ≡ length old - place = omega arith in sym (place_more season f rest (take place old)) ∙ ap (λ n. sum_after season f n (take place old)) next
 
-  module _ (asked : List ℕ) (d : ℕ) (size : length asked ≡ length old) (begun : take (place + 1) asked ≡ take place old ++ d ∷ []) (held : d ≤ season.top) where
+  module _ (asked : List ℕ) (d : ℕ) (is : IsNext season old place asked d) where
     -- the sum that the rest of the places gives
     pub after_is : (f : List ℕ → ℤ) → sum_after season f (length asked - (place + 1)) (take (place + 1) asked) ≡ sum_after season f rest (take place old ++ d ∷ [])
-    after_is f = ap₂ (λ n l. sum_after season f (n - (place + 1)) l) size begun
+    after_is f = ap₂ (λ n l. sum_after season f (n - (place + 1)) l) is.size is.begun
 
     pub each_more : ((i : ℕ) → i < place → get_or old i 0 ≤ season.top) → (i : ℕ) → i < place + 1 → get_or asked i 0 ≤ season.top
     each_more earlier i lt = subst (λ n. n ≤ season.top) (sym there) (go (cases_lt i place))
@@ -119,11 +132,11 @@ module _ (season : Season) (path old : List ℕ) (place : ℕ) (inside : place <
         long = length-take-le place old (omega arith)
 
         there : get_or asked i 0 ≡ get_or (take place old ++ d ∷ []) i 0
-        there = sym (get_or-take (place + 1) asked i 0 lt) ∙ ap (λ l. get_or l i 0) begun
+        there = sym (get_or-take (place + 1) asked i 0 lt) ∙ ap (λ l. get_or l i 0) is.begun
 
         go : (i < place) ⊎ (place ≤ i) → get_or (take place old ++ d ∷ []) i 0 ≤ season.top
         go (inl less) = subst (λ n. n ≤ season.top) (sym (get_or-append (take place old) (d ∷ []) 0 i (omega (arith, less, long)) ∙ get_or-take place old i 0 less)) (earlier i less)
-        go (inr more) = let last : length (take place old) ≡ i = omega (arith, more, lt, long) in subst (λ n. get_or (take place old ++ d ∷ []) n 0 ≤ season.top) last (subst (λ n. n ≤ season.top) (sym (get_or-append_seam (take place old) d [] 0)) held)
+        go (inr more) = let last : length (take place old) ≡ i = omega (arith, more, lt, long) in subst (λ n. get_or (take place old ++ d ∷ []) n 0 ≤ season.top) last (subst (λ n. n ≤ season.top) (sym (get_or-append_seam (take place old) d [] 0)) is.held)
 
     mass_to : (n : ℕ) → n ≤ suc season.top → sum_over (numbers 0 n) mass_at ≤ℤ sum_after season (flat_chance season path) (length old - place) (take place old)
     mass_to n le =
@@ -137,7 +150,7 @@ module _ (season : Season) (path old : List ℕ) (place : ℕ) (inside : place <
     pub mass_small : sum_after season (flat_chance season path) (length old - place) (take place old) ≤ℤ pos (10 ^ 18) → sum_after season (flat_chance season path) (length asked - (place + 1)) (take (place + 1) asked) ≤ℤ pos (10 ^ 18)
     mass_small small =
         let here : sum_after season (flat_chance season path) (length asked - (place + 1)) (take (place + 1) asked) ≡ mass_at d = after_is (flat_chance season path) in
-        let part : sum_over (numbers 0 (suc d)) mass_at ≤ℤ sum_after season (flat_chance season path) (length old - place) (take place old) = mass_to (suc d) (omega arith) in
+        let part : sum_over (numbers 0 (suc d)) mass_at ≤ℤ sum_after season (flat_chance season path) (length old - place) (take place old) = mass_to (suc d) (omega (arith, is.held)) in
         let all : sum_over (numbers 0 (suc d)) mass_at ≡ sum_over (numbers 0 d) mass_at +ℤ mass_at (0 + d) = sum_over-numbers_more 0 d mass_at in
         let same : mass_at (0 + d) ≡ mass_at d = ap mass_at (none d) in
         let earlier = sums_natural d in
@@ -159,7 +172,7 @@ module _ (season : Season) (path old : List ℕ) (place : ℕ) (inside : place <
 
       pub next_fits : SFits w128 (total +ℤ value)
       next_fits =
-          let part : sum_over (numbers 0 (d + 1)) mass_at ≤ℤ sum_after season (flat_chance season path) (length old - place) (take place old) = mass_to (d + 1) (omega arith) in
+          let part : sum_over (numbers 0 (d + 1)) mass_at ≤ℤ sum_after season (flat_chance season path) (length old - place) (take place old) = mass_to (d + 1) (omega (arith, is.held)) in
           bounded_fits (sum_over (numbers 0 (d + 1)) mass_at) (total +ℤ value) next_bound (omega (arith, linear))
 
       pub next_value : total +ℤ value ≡ sum_over (numbers 0 (d + 1)) part_at
