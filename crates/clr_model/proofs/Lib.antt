@@ -10,3 +10,6 @@ pub mod Abiding
 pub mod Best
 pub mod BySummary
 pub mod StoreBounds
+pub mod JointNumbers
+pub mod JointBounds
+pub mod JointBySummary

@@ -7,3 +7,5 @@ pub mod Laws
 pub mod StoreValue
 pub mod StoreLaws
 pub mod Weights
+pub mod JointValue
+pub mod JointLaws
