@@ -13,3 +13,4 @@ pub mod StoreBounds
 pub mod JointNumbers
 pub mod JointBounds
 pub mod JointBySummary
+pub mod FitsBounds

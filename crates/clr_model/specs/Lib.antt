@@ -9,3 +9,4 @@ pub mod StoreLaws
 pub mod Weights
 pub mod JointValue
 pub mod JointLaws
+pub mod Fits

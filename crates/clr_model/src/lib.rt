@@ -5,6 +5,7 @@
 #![tactic(auto)]
 
 mod joint_laws;
+mod joint_limits;
 mod laws;
 mod path;
 mod store_laws;
@@ -15,6 +16,7 @@ pub use joint_laws::{
     joint_covers_top, joint_floor_reached, joint_table_enclosed, joint_tops,
     joint_value_by_summary, joint_values_close,
 };
+pub use joint_limits::fits;
 pub use laws::{
     chances_sum, one_store_split_off, one_week_split_off, path_enclosed, sold_in_a_week,
 };
