@@ -14,3 +14,4 @@ pub mod JointNumbers
 pub mod JointBounds
 pub mod JointBySummary
 pub mod FitsBounds
+pub mod JointFold

@@ -10,3 +10,4 @@ pub mod Weights
 pub mod JointValue
 pub mod JointLaws
 pub mod Fits
+pub mod JointFold

@@ -1,5 +1,6 @@
 // Laws of the values of all stores together, and of any numbers and choices that meet the same conditions. Each is the contract of
 // a function that does nothing.
+ghost use Rattle.clr_model.specs.JointFold.{JointSumByStores};
 ghost use Rattle.clr_model.specs.JointLaws.{JointCoversTop, JointFloorReached, JointTableEnclosed, JointTops, JointValueBySummary, JointValuesClose};
 
 /// The value of all stores together and the choice after a live prefix depend on the prefix's length and summary alone.
@@ -33,4 +34,10 @@ pub fn joint_table_enclosed()
 /// The two values after a live prefix lie at most a unit apart for each week to come.
 pub fn joint_values_close()
     ensures { JointValuesClose }
+{}
+
+/// The sum over a week's joint demands of what all stores earn and the value after it, store by store: a sum over the demands of one
+/// store after another.
+pub fn joint_sum_by_stores()
+    ensures { JointSumByStores }
 {}

@@ -13,7 +13,7 @@ mod week;
 
 pub use clr_rules::same_summary_same_rest;
 pub use joint_laws::{
-    joint_covers_top, joint_floor_reached, joint_table_enclosed, joint_tops,
+    joint_covers_top, joint_floor_reached, joint_sum_by_stores, joint_table_enclosed, joint_tops,
     joint_value_by_summary, joint_values_close,
 };
 pub use joint_limits::fits;
