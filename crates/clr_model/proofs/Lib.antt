@@ -11,3 +11,8 @@ pub mod Best
 pub mod BySummary
 pub mod StoreBounds
 pub mod Markdowns
+pub mod JointNumbers
+pub mod JointBounds
+pub mod JointBySummary
+pub mod FitsBounds
+pub mod JointFold

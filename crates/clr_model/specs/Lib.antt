@@ -7,3 +7,7 @@ pub mod Laws
 pub mod StoreValue
 pub mod StoreLaws
 pub mod Weights
+pub mod JointValue
+pub mod JointLaws
+pub mod Fits
+pub mod JointFold
