@@ -101,7 +101,7 @@ pub fn end_week<R: Direction>(
 {
     let row = end_row(alloc, season, store, width)?;
     let list = week_list(alloc, live, season.weeks())?;
-    let mut values = Vec::new(alloc);
+    let mut values = Vec::with_capacity(alloc, list.len().saturating_mul(width))?;
     for place in 0..list.len() {
         values.extend_from_slice(&row)?;
     }
@@ -136,8 +136,8 @@ fn best_rows<R: Direction>(
     ensures values { IfOk result (λ week. AreRows (pos 0) width list.now (length list.now) (summary_value R.quotient (mult_at mult.now) season.now store done) week.values) }
     ensures choices { IfOk result (λ week. AreRows 0 width list.now (length list.now) (summary_choice R.quotient (mult_at mult.now) season.now store done) week.choices) }
 {
-    let mut values = Vec::new(alloc);
-    let mut choices = Vec::new(alloc);
+    let mut values = Vec::with_capacity(alloc, list.len().saturating_mul(width))?;
+    let mut choices = Vec::with_capacity(alloc, list.len().saturating_mul(width))?;
     let mut row = vec![in alloc; 0; width]?;
     let mut chosen = vec![in alloc; 1; width]?;
     for s in list {
