@@ -1,0 +1,4 @@
+pub mod Tables
+pub mod BySummary
+pub mod Rows
+pub mod Weeks
