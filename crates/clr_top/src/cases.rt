@@ -131,18 +131,25 @@ pub(crate) fn planned(alloc: Global, files: Files<'_>) -> Result<Answer, AllocEr
     run_on(alloc, &["plan", "f"], &mut shelf, &[])
 }
 
-// The plan of the same files in the real folder `f`, which is there.
+// The plan of the same files in a real folder, which is there.
 pub(crate) fn planned_on_disk(
     rt: &impl RealFiles,
     alloc: Global,
+    folder: &str,
     files: Files<'_>,
 ) -> Result<Answer, Fail> {
-    fs::write(rt, "f/rules.json", files.rules)?;
-    fs::write(rt, "f/calendar.csv", files.calendar)?;
-    fs::write(rt, "f/ladder.csv", files.ladder)?;
-    fs::write(rt, "f/stock.csv", files.stock)?;
-    fs::write(rt, "f/demand.csv", files.demand)?;
+    let all: [(&str, &[u8]); 5] = [
+        ("rules.json", files.rules),
+        ("calendar.csv", files.calendar),
+        ("ladder.csv", files.ladder),
+        ("stock.csv", files.stock),
+        ("demand.csv", files.demand),
+    ];
+    for (name, bytes) in all {
+        let path = format!(in alloc; "{folder}/{name}")?;
+        fs::write(rt, path.as_str(), bytes)?;
+    }
     let mut shelf = FileShelf::new(rt);
-    let answer = run_on(alloc, &["plan", "f"], &mut shelf, &[])?;
+    let answer = run_on(alloc, &["plan", folder], &mut shelf, &[])?;
     Ok(answer)
 }

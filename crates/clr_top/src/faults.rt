@@ -81,7 +81,7 @@ fn padded(alloc: Global, count: usize) -> Result<Vec<u8>, AllocError>
 #[test]
 fn long_and_deep_files_are_told(rt: HostRuntime) -> Result<(), Fail> {
     let alloc = rt.alloc();
-    fs::create_dir(&rt, "f")?;
+    fs::create_dir(&rt, "long")?;
     let deep = nested(alloc, 128)?;
     let answer = planned(
         alloc,
@@ -104,7 +104,7 @@ fn long_and_deep_files_are_told(rt: HostRuntime) -> Result<(), Fail> {
             answer.notes(Status::Limit, "limit: demand.csv longer than 33554432") != fits,
             "{count}"
         );
-        let on_disk = planned_on_disk(&rt, alloc, files)?;
+        let on_disk = planned_on_disk(&rt, alloc, "long", files)?;
         assert!(rt; on_disk.reports(SMALLEST_REPORT) == fits, "{count} on disk");
         assert!(rt;
             on_disk.notes(Status::Limit, "limit: demand.csv longer than 33554432") != fits,
@@ -118,18 +118,18 @@ fn long_and_deep_files_are_told(rt: HostRuntime) -> Result<(), Fail> {
 fn real_folders_lack_files(rt: HostRuntime) -> Result<(), Fail> {
     let alloc = rt.alloc();
     let mut shelf = FileShelf::new(&rt);
-    let no_folder = run_on(alloc, &["plan", "f"], &mut shelf, &[])?;
+    let no_folder = run_on(alloc, &["plan", "lacking"], &mut shelf, &[])?;
     assert!(rt; no_folder.notes(Status::Absent, "absent: rules.json"));
-    fs::create_dir(&rt, "f")?;
-    let whole = planned_on_disk(&rt, alloc, SMALLEST)?;
+    fs::create_dir(&rt, "lacking")?;
+    let whole = planned_on_disk(&rt, alloc, "lacking", SMALLEST)?;
     assert!(rt; whole.reports(SMALLEST_REPORT));
-    fs::remove_file(&rt, "f/demand.csv")?;
-    let no_demand = run_on(alloc, &["plan", "f"], &mut shelf, &[])?;
+    fs::remove_file(&rt, "lacking/demand.csv")?;
+    let no_demand = run_on(alloc, &["plan", "lacking"], &mut shelf, &[])?;
     assert!(rt; no_demand.notes(Status::Absent, "absent: demand.csv"));
     // A folder in the place of a file opens, and can't be read.
-    fs::create_dir(&rt, "g")?;
-    fs::create_dir(&rt, "g/rules.json")?;
-    let folder = run_on(alloc, &["plan", "g"], &mut shelf, &[])?;
+    fs::create_dir(&rt, "odd")?;
+    fs::create_dir(&rt, "odd/rules.json")?;
+    let folder = run_on(alloc, &["plan", "odd"], &mut shelf, &[])?;
     assert!(rt; folder.notes(Status::ReadFault, "read fault: rules.json"));
     Ok(())
 }

@@ -387,11 +387,12 @@ fn with(file: File, bytes: &[u8]) -> Files<'_> {
 fn is_refused(
     rt: &impl RealFiles,
     alloc: Global,
+    folder: &str,
     files: Files<'_>,
     note: &str,
 ) -> Result<bool, Fail> {
     let told = planned(alloc, files)?;
-    let on_disk = planned_on_disk(rt, alloc, files)?;
+    let on_disk = planned_on_disk(rt, alloc, folder, files)?;
     Ok(told.notes(Status::Refused, note) && on_disk.notes(Status::Refused, note))
 }
 
@@ -406,10 +407,13 @@ const FILES: [(File, &[(&[u8], &str)]); 5] = [
 #[test]
 fn first_refusals_are_told(rt: HostRuntime) -> Result<(), Fail> {
     let alloc = rt.alloc();
-    fs::create_dir(&rt, "f")?;
+    fs::create_dir(&rt, "refused")?;
     for (file, cases) in FILES {
         for (bytes, note) in cases {
-            assert!(rt; is_refused(&rt, alloc, with(file, bytes), note)?, "{note}");
+            assert!(rt;
+                is_refused(&rt, alloc, "refused", with(file, bytes), note)?,
+                "{note}"
+            );
         }
     }
     Ok(())
@@ -418,9 +422,9 @@ fn first_refusals_are_told(rt: HostRuntime) -> Result<(), Fail> {
 #[test]
 fn later_versions_are_told(rt: HostRuntime) -> Result<(), Fail> {
     let alloc = rt.alloc();
-    fs::create_dir(&rt, "f")?;
+    fs::create_dir(&rt, "later")?;
     for (files, note) in VERSIONS {
-        assert!(rt; is_refused(&rt, alloc, files, note)?, "{note}");
+        assert!(rt; is_refused(&rt, alloc, "later", files, note)?, "{note}");
     }
     Ok(())
 }

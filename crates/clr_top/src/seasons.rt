@@ -127,11 +127,11 @@ const SEASONS: [(Files<'static>, &[u8]); 14] = [
 #[test]
 fn seasons_are_planned(rt: HostRuntime) -> Result<(), Fail> {
     let alloc = rt.alloc();
-    fs::create_dir(&rt, "f")?;
+    fs::create_dir(&rt, "planned")?;
     for (index, (files, report)) in SEASONS.iter().enumerate() {
         let told = planned(alloc, *files)?;
         assert!(rt; told.reports(report), "{index}");
-        let on_disk = planned_on_disk(&rt, alloc, *files)?;
+        let on_disk = planned_on_disk(&rt, alloc, "planned", *files)?;
         assert!(rt; on_disk.reports(report), "{index} on disk");
     }
     Ok(())
