@@ -1,17 +1,14 @@
 // The tables of all stores with nothing paid.
 ghost use Rattle.clr_model.specs.Expected.{Tops};
-ghost use Rattle.clr_mult.specs.Tables.{mult_at};
-ghost use Rattle.clr_num.specs.Rounding.{ceil};
 ghost use Rattle.clr_rules.specs.FirstPath.{SomePathObeys};
 ghost use Rattle.clr_rules.specs.LiveSummaries.{live_pairs};
-ghost use Rattle.clr_storedp.specs.Tables.{AreOfSeason, AreSmall, AreTablesOf};
+ghost use Rattle.clr_storedp.specs.Tables.{AreOfSeason, AreSmall};
 ghost use Rattle.std.specs.Prelude.{◌≡◌, IfOk};
 
 use clr_mult::Mult;
-use clr_num::Up;
 use clr_rules::Live;
 use clr_season::Season;
-use clr_storedp::{StoreTable, bound};
+use clr_storedp::{bound, tables};
 use std::alloc::{AllocError, Global};
 
 // Multipliers of 0 for a season.
@@ -21,27 +18,6 @@ fn nothing_paid(alloc: Global, season: &Season) -> Result<Mult, AllocError>
 {
     let mult = Mult::zero(alloc, season.stores(), season.weeks(), season.rungs())?;
     Ok(mult)
-}
-
-// The table of each store.
-fn tables(
-    alloc: Global,
-    season: &Season,
-    live: &Live,
-    mult: &Mult,
-) -> Result<Vec<StoreTable<Up>>, AllocError>
-    requires live { live.now ≡ live_pairs season.now.rules }
-    requires any { SomePathObeys season.now.rules }
-    requires mult { AreOfSeason season.now mult.now }
-    requires small { AreSmall mult.now }
-    ensures { IfOk result (λ tables. AreTablesOf ceil (mult_at mult.now) season.now tables.items) }
-{
-    let mut tables = Vec::new(alloc);
-    for index in 0..season.stores() {
-        let table = StoreTable::<Up>::build(alloc, season, live, mult, index + 1)?;
-        tables.push(table)?;
-    }
-    Ok(tables)
 }
 
 /// The bound over all policies with nothing paid, where some path obeys.

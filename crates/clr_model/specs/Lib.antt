@@ -11,3 +11,4 @@ pub mod JointValue
 pub mod JointLaws
 pub mod Fits
 pub mod JointFold
+pub mod Usage

@@ -58,6 +58,19 @@ impl Week {
         Ok(Week { grid, list, places })
     }
 
+    // The same summaries again.
+    fn copy(&self, alloc: Global) -> Result<Week, AllocError>
+        ensures { IfOk result (λ week. week ≡ self.now) }
+    {
+        let list = Vec::from_slice(alloc, &self.list)?;
+        let places = Vec::from_slice(alloc, &self.places)?;
+        Ok(Week {
+            grid: self.grid,
+            list,
+            places,
+        })
+    }
+
     fn len(&self) -> u32
         ensures { result ≡ length self.now }
     {
@@ -297,6 +310,20 @@ impl Live {
         let candidates = grid.summaries(alloc)?;
         let mut weeks = reached_weeks(alloc, rules, grid, &candidates)?;
         keep_live(alloc, rules, grid, &candidates, &mut weeks)?;
+        Ok(Live { weeks })
+    }
+
+    /// The same live summaries again.
+    ///
+    /// # Errors
+    /// Where memory is wanting.
+    pub fn copy(&self, alloc: Global) -> Result<Live, AllocError>
+        ensures { IfOk result (λ live. live ≡ self.now) }
+    {
+        let mut weeks = Vec::with_capacity(alloc, self.weeks.len())?;
+        for week in &self.weeks {
+            weeks.push(week.copy(alloc)?)?;
+        }
         Ok(Live { weeks })
     }
 

@@ -12,5 +12,5 @@ mod rows;
 mod table;
 mod week;
 
-pub use bounds::bound;
+pub use bounds::{bound, tables};
 pub use table::StoreTable;

@@ -72,7 +72,7 @@ impl<R: Direction> StoreTable<R> {
             weeks.push(week)?;
         }
         Ok(StoreTable {
-            live: Live::build(alloc, season.rules())?,
+            live: live.copy(alloc)?,
             width,
             weeks,
             direction: PhantomData,

@@ -1,7 +1,6 @@
-use Rattle.std.proofs.Common.{◌≡◌, ◌+◌, ◌-◌, [], suc, get_or, ap, sym, ◌∙◌, subst, subst₂, arith}
+use Rattle.std.proofs.Common.{◌≡◌, ◌+◌, ◌-◌, [], suc, get_or, sym, ◌∙◌, subst, subst₂, arith}
 use Rattle.std.proofs.lemmas.List.{get_or_default}
 use Rattle.clr_mult.specs.Tables.{mult_at}
-use Rattle.clr_rules.specs.LiveSummaries.{live_pairs}
 use Rattle.clr_storedp.specs.Weeks.{AreWeeks, IsWeek}
 use Rattle.clr_storedp.proofs.TableLemmas.{inside_is, table_is, weeks_more}
 use Rattle.clr_storedp.proofs.table.StoreTable.build.Goals as goal
@@ -25,11 +24,11 @@ loop-back-preserved g c =
 pub invariant_of-result : goal.invariant_of-result
 invariant_of-result g c =
     let all : c.loop-back.back + 1 ≡ suc c.args.season.now.rules.weeks = omega (arith, c.loop-back-test.false, c.loop-back.auto.back-end, c.weeks-count.ensures.value) in
-    inside_is g.R.Direction.quotient (mult_at c.args.mult.now) c.args.season.now c.args.store (c.stock.result + 1) c.in_ok-build.field-0 c.loop-back.weeks.items c.weeks-count.ensures.facts.rules (c.in_ok-build.ensures.pairs ∙ ap live_pairs c.rules.ensures.value) c.requires.any
+    inside_is g.R.Direction.quotient (mult_at c.args.mult.now) c.args.season.now c.args.store (c.stock.result + 1) c.in_ok-copy.field-0 c.loop-back.weeks.items c.weeks-count.ensures.facts.rules (c.in_ok-copy.ensures ∙ c.requires.live) c.requires.any
     (omega (arith, c.stock.ensures.value)) (subst (λ n. AreWeeks g.R.Direction.quotient (mult_at c.args.mult.now) c.args.season.now c.args.store (c.stock.result + 1) n c.loop-back.weeks.items) all c.loop-back.invariant)
 
 pub returns : goal.returns
 returns g c =
     let all : c.loop-back.back + 1 ≡ suc c.args.season.now.rules.weeks = omega (arith, c.loop-back-test.false, c.loop-back.auto.back-end, c.weeks-count.ensures.value) in
-    table_is g.R.Direction.quotient (mult_at c.args.mult.now) c.args.season.now c.args.store (c.stock.result + 1) c.in_ok-build.field-0 c.loop-back.weeks.items c.weeks-count.ensures.facts.rules (c.in_ok-build.ensures.pairs ∙ ap live_pairs c.rules.ensures.value) c.requires.any
+    table_is g.R.Direction.quotient (mult_at c.args.mult.now) c.args.season.now c.args.store (c.stock.result + 1) c.in_ok-copy.field-0 c.loop-back.weeks.items c.weeks-count.ensures.facts.rules (c.in_ok-copy.ensures ∙ c.requires.live) c.requires.any
     (omega (arith, c.stock.ensures.value)) (subst (λ n. AreWeeks g.R.Direction.quotient (mult_at c.args.mult.now) c.args.season.now c.args.store (c.stock.result + 1) n c.loop-back.weeks.items) all c.loop-back.invariant)

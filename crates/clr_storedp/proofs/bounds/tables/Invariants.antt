@@ -2,7 +2,7 @@ use Rattle.std.proofs.Common.{◌≡◌, ℕ, ◌<◌, suc, [], length, get_or}
 use Rattle.clr_mult.specs.Tables.{mult_at}
 use Rattle.clr_num.specs.Rounding.{ceil}
 use Rattle.clr_storedp.specs.Tables.{IsTableOf}
-use Rattle.clr_trials_tables.proofs.bounds.tables.Given as goal
+use Rattle.clr_storedp.proofs.bounds.tables.Given as goal
 
 abbrev pub invariant-loop-index : goal.invariant-loop-index
 invariant-loop-index l = record {

@@ -4,7 +4,7 @@ use Rattle.std.proofs.lemmas.List.{get_or-append-add}
 use Rattle.clr_mult.specs.Tables.{mult_at}
 use Rattle.clr_num.specs.Rounding.{ceil}
 use Rattle.clr_storedp.specs.Tables.{Entry, IsTableOf}
-use Rattle.clr_bench.proofs.tables.tables.Goals as goal
+use Rattle.clr_storedp.proofs.bounds.tables.Goals as goal
 
 -- what holds of each table of a list and of one more holds of all
 one_more : (P : ℕ → List Entry → Type 0) (tables : List (List Entry)) (table : List Entry) (count : ℕ) → length tables ≡ count →
