@@ -17,3 +17,4 @@ pub mod JointBySummary
 pub mod FitsBounds
 pub mod JointFold
 pub mod PrefixBound
+pub mod PathNumbers

@@ -13,3 +13,4 @@ pub mod Fits
 pub mod JointFold
 pub mod Usage
 pub mod PrefixBound
+pub mod PathNumbers

@@ -1,4 +1,5 @@
 // Laws of the definitions. Each is the contract of a function that does nothing.
+ghost use Rattle.clr_model.specs.PathNumbers.{PathNumbersEnclose};
 ghost use Rattle.clr_model.specs.Laws.{ChancesSum, MarkdownsCounted, OneStoreSplitOff, OneWeekSplitOff, PathEnclosed, SoldInAWeek};
 
 /// The chances of the outcomes of a whole tree sum to the denominator.
@@ -32,4 +33,9 @@ pub fn markdowns_counted()
 /// week apart.
 pub fn path_enclosed()
     ensures { PathEnclosed }
+{}
+
+/// Any numbers that lean the right way along a path, week by week and without rounding, enclose what it earns in expectation.
+pub fn path_numbers_enclose()
+    ensures { PathNumbersEnclose }
 {}

@@ -19,7 +19,7 @@ pub use joint_laws::{
 pub use joint_limits::fits;
 pub use laws::{
     chances_sum, markdowns_counted, one_store_split_off, one_week_split_off, path_enclosed,
-    sold_in_a_week,
+    path_numbers_enclose, sold_in_a_week,
 };
 pub use path::Path;
 pub use store_laws::{abiding_nodes_live, bound_tops, covers_top, prefix_bounds, value_by_summary};
