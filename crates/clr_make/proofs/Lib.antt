@@ -1,2 +1,4 @@
 pub mod DrawLemmas
+pub mod FixedFiles
 pub mod LineLemmas
+pub mod TableLemmas

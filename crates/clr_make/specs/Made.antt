@@ -41,11 +41,11 @@ abbrev pub made_units : ℕ → ℕ → ℕ
 made_units seed store = 20 + draw seed (draws_before store + 1) % 41
 
 -- a store's row of stock.csv, with its salvage of 5.00
-abbrev pub stock_row : ℕ → ℕ → List (List ℕ)
-stock_row store units = store_name store ∷ decimal units ∷ codes "5.00" ∷ []
+abbrev pub store_fields : ℕ → ℕ → List (List ℕ)
+store_fields store units = store_name store ∷ decimal units ∷ codes "5.00" ∷ []
 
 unfoldable pub stock_rows : ℕ → List (List (List ℕ))
-stock_rows seed = map (λ store. stock_row store (made_units seed store)) (numbers 1 24)
+stock_rows seed = map (λ store. store_fields store (made_units seed store)) (numbers 1 24)
 
 unfoldable pub made_stock : ℕ → List ℕ
 made_stock seed = lines (stock_columns false ∷ stock_rows seed)
@@ -61,13 +61,13 @@ abbrev pub least_demand : ℕ → ℕ → ℕ → ℕ → ℕ
 least_demand seed store week rung = (rung - 1 + draw seed (draw_number store week rung) % 3) / 2
 
 -- a row of demand.csv
-abbrev pub demand_row : ℕ → ℕ → ℕ → ℕ → ℕ → List (List ℕ)
-demand_row store week rung units weight = store_name store ∷ decimal week ∷ decimal rung ∷ decimal units ∷ decimal weight ∷ []
+abbrev pub demand_fields : ℕ → ℕ → ℕ → ℕ → ℕ → List (List ℕ)
+demand_fields store week rung units weight = store_name store ∷ decimal week ∷ decimal rung ∷ decimal units ∷ decimal weight ∷ []
 
 -- three demands in a row, with the weights 25, 50 and 25
 unfoldable pub demand_rows_from : ℕ → ℕ → ℕ → ℕ → List (List (List ℕ))
 demand_rows_from store week rung least =
-    demand_row store week rung least 25 ∷ demand_row store week rung (least + 1) 50 ∷ demand_row store week rung (least + 2) 25 ∷ []
+    demand_fields store week rung least 25 ∷ demand_fields store week rung (least + 1) 50 ∷ demand_fields store week rung (least + 2) 25 ∷ []
 
 unfoldable pub rung_rows : ℕ → ℕ → ℕ → ℕ → List (List (List ℕ))
 rung_rows seed store week rung = demand_rows_from store week rung (least_demand seed store week rung)

@@ -1,6 +1,6 @@
 //! The rows of stock.csv and demand.csv, as they are drawn and printed.
 ghost use Rattle.clr_make.specs.Draws.{state_after};
-ghost use Rattle.clr_make.specs.Made.{demand_row, demand_rows_from, draw_number, draws_before, line, lines, made_units, rung_rows, stock_row, store_name, store_rows, week_rows};
+ghost use Rattle.clr_make.specs.Made.{demand_fields, demand_rows_from, draw_number, draws_before, line, lines, made_units, rung_rows, store_fields, store_name, store_rows, week_rows};
 ghost use Rattle.std.specs.List.{flat_map};
 ghost use Rattle.std.specs.Prelude.{◌≡◌, ◌+◌, ◌-◌, ◌<◌, ◌≤◌, ◌∷◌, ◌++◌, [], ℕ, decimal, map, OnOk};
 
@@ -25,7 +25,7 @@ pub(crate) fn print_store(
     ensures draws { (seed : ℕ) → draws.old.state ≡ state_after seed (draws_before store) →
         OnOk result (draws.new.state ≡ state_after seed (draws_before (store + 1))) }
     ensures stock { (seed : ℕ) → draws.old.state ≡ state_after seed (draws_before store) →
-        OnOk result (stock.new.items ≡ stock.old.items ++ line (stock_row store (made_units seed store))) }
+        OnOk result (stock.new.items ≡ stock.old.items ++ line (store_fields store (made_units seed store))) }
     ensures demand { (seed : ℕ) → draws.old.state ≡ state_after seed (draws_before store) →
         OnOk result (demand.new.items ≡ demand.old.items ++ lines (store_rows seed store)) }
 {
@@ -117,7 +117,7 @@ fn print_demand(store: u32, numbers: [u32; 4], out: &mut Vec<u8>) -> Result<(), 
 /// Appends a row of stock.csv.
 fn print_stock(store: u32, units: u32, out: &mut Vec<u8>) -> Result<(), AllocError>
     requires { (1 ≤ store) × (store ≤ 24) }
-    ensures { OnOk result (out.new.items ≡ out.old.items ++ line (stock_row store units)) }
+    ensures { OnOk result (out.new.items ≡ out.old.items ++ line (store_fields store units)) }
 {
     print_name(store, out)?;
     print_numbers(&[units], out)?;

@@ -2,7 +2,7 @@ use Rattle.std.proofs.Common.{◌≡◌, ◌-◌, ◌++◌, ◌∙◌, ap, sym, 
 use Rattle.std.specs.List.{flat_map}
 use Rattle.clr_num.specs.Lists.{numbers}
 use Rattle.clr_make.specs.Draws.{state_after}
-use Rattle.clr_make.specs.Made.{demand_rows, lines, made_units, stock_row, stock_rows, store_rows}
+use Rattle.clr_make.specs.Made.{demand_rows, lines, made_units, store_fields, stock_rows, store_rows}
 use Rattle.clr_make.proofs.DrawLemmas.{first-store}
 use Rattle.clr_make.proofs.LineLemmas.{row-more, rows-more, rows-none}
 use Rattle.clr_make.proofs.files.print_stores.Goals as goal
@@ -20,7 +20,7 @@ loop-store-preserved c =
     let low = c.loop-store.auto.store in
     record {
       draws = c.in_ok-print_store.ensures.draws c.args.seed before.draws;
-      stock = row-more (λ store. stock_row store (made_units c.args.seed store)) c.loop-store.store c.args.stock.now.items c.loop-store.stock.items c.print_store.new.stock.items low before.stock (c.in_ok-print_store.ensures.stock c.args.seed before.draws);
+      stock = row-more (λ store. store_fields store (made_units c.args.seed store)) c.loop-store.store c.args.stock.now.items c.loop-store.stock.items c.print_store.new.stock.items low before.stock (c.in_ok-print_store.ensures.stock c.args.seed before.draws);
       demand = rows-more (store_rows c.args.seed) c.loop-store.store c.args.demand.now.items c.loop-store.demand.items c.print_store.new.demand.items low before.demand (c.in_ok-print_store.ensures.demand c.args.seed before.draws);
     }
 
@@ -28,7 +28,7 @@ pub returns-clause-stock : goal.returns-clause-stock
 unfolding stock_rows
 returns-clause-stock c =
     let end : c.loop-store.store - 1 ≡ 24 = omega arith in
-    c.loop-store.invariant.stock ∙ ap (λ n. c.args.stock.now.items ++ lines (map (λ store. stock_row store (made_units c.args.seed store)) (numbers 1 n))) end
+    c.loop-store.invariant.stock ∙ ap (λ n. c.args.stock.now.items ++ lines (map (λ store. store_fields store (made_units c.args.seed store)) (numbers 1 n))) end
 
 pub returns-clause-demand : goal.returns-clause-demand
 unfolding demand_rows
