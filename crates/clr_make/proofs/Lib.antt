@@ -1,3 +1,5 @@
+pub mod DemandReads
+pub mod DemandRows
 pub mod DrawLemmas
 pub mod FieldLemmas
 pub mod FixedFiles
