@@ -1,5 +1,6 @@
 pub mod DemandReads
 pub mod DemandRows
+pub mod DemandTotals
 pub mod DrawLemmas
 pub mod FieldLemmas
 pub mod FixedFiles
