@@ -5,6 +5,8 @@ pub mod DrawLemmas
 pub mod FieldLemmas
 pub mod FixedFiles
 pub mod LineLemmas
+pub mod MadeRules
+pub mod MadeStores
 pub mod RangeLemmas
 pub mod StockReads
 pub mod TableLemmas

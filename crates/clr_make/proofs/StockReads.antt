@@ -45,6 +45,13 @@ none-of : {X : Type 0} (o : Option X) → is_none o ≡ true → o ≡ None
 none-of None e = refl
 none-of (Some x) e = cc e
 
+pub name-good : (store : ℕ) → 1 ≤ store → store ≤ 24 → names_store (store_name store) ≡ true
+name-good store low high = passes-at (λ s. names_store (store_name s)) 1 24 store names-good low (omega arith)
+
+-- no store before has the name of one
+pub name-new : (store : ℕ) → 1 ≤ store → store ≤ 24 → number_of (map store_name (numbers 1 (store - 1))) (store_name store) ≡ None
+name-new store low high = none-of _ (passes-at (λ s. is_none (number_of (map store_name (numbers 1 (s - 1))) (store_name s))) 1 24 store names-new low (omega arith))
+
 map-names : (seed : ℕ) (stores : List ℕ) → map (λ (s : Store). s.name) (map (made_store seed) stores) ≡ map store_name stores
 map-names seed [] = refl
 map-names seed (n ∷ stores) = ap (λ t. store_name n ∷ t) (map-names seed stores)
@@ -59,11 +66,11 @@ row-read : (seed store row : ℕ) → 1 ≤ store → store ≤ 24 →
     stock_row false row (map (made_store seed) (numbers 1 (store - 1))) (store_fields store (made_units seed store)) ≡ Ok (map (made_store seed) (numbers 1 (store - 1)) ++ made_store seed store ∷ [])
 unfolding stock_row holding_at cost_at money_at whole_of
 row-read seed store row low high =
-    let good = passes-at (λ s. names_store (store_name s)) 1 24 store names-good low (omega arith) in
+    let good = name-good store low high in
     let range = units-range seed store in
     let units = number-read row 2 0 2000 (made_units seed store) (omega arith) (omega (arith, range.1)) (omega (arith, range.1)) in
     let new : number_of (map (λ (s : Store). s.name) (map (made_store seed) (numbers 1 (store - 1)))) (store_name store) ≡ None =
-    ap (λ ns. number_of ns (store_name store)) (map-names seed (numbers 1 (store - 1))) ∙ none-of _ (passes-at (λ s. is_none (number_of (map store_name (numbers 1 (s - 1))) (store_name s))) 1 24 store names-new low (omega arith)) in
+    ap (λ ns. number_of ns (store_name store)) (map-names seed (numbers 1 (store - 1))) ∙ name-new store low high in
     rw (good, units, new) refl
 
 abbrev made_row : ℕ → ℕ → List (List ℕ)

@@ -1,0 +1,26 @@
+-- Four files that read to a season, in whichever folder they lie.
+use Rattle.std.specs.Prelude.{◌≡◌, ℕ, List, Some, Ok}
+use Rattle.clr_io.specs.Files.{Files, held}
+use Rattle.clr_rules.specs.FirstPath.{SomePathObeys}
+use Rattle.clr_season.specs.Reads.{path_of, season_in}
+use Rattle.clr_season.specs.Season.{IsSeason, Season}
+use Rattle.clr_season.specs.declared.reads.File.TheVariants.{Rules, Ladder, Stock, Demand}
+use Rattle.clr_make.specs.declared.files.Made.{Made}
+
+-- a folder holds these files under their names
+pub record HoldsMade (files : Files) (folder : List ℕ) (made : Made) : Type 0 where
+  pub rules : held (path_of folder Rules) files ≡ Some made.rules.items
+  pub ladder : held (path_of folder Ladder) files ≡ Some made.ladder.items
+  pub stock : held (path_of folder Stock) files ≡ Some made.stock.items
+  pub demand : held (path_of folder Demand) files ≡ Some made.demand.items
+
+-- what a folder reads to is a season, and some path obeys its rules
+pub record ReadsToSeason (files : Files) (folder : List ℕ) : Type 0 where
+  pub season : Season
+  pub reads : season_in files folder ≡ Ok season
+  pub valid : IsSeason season
+  pub some_path : SomePathObeys season.rules
+
+-- each folder that holds the files reads to such a season
+abbrev pub ReadInFolders : Made → Type 0
+ReadInFolders made = (files : Files) (folder : List ℕ) → HoldsMade files folder made → ReadsToSeason files folder
