@@ -5,8 +5,10 @@ pub mod DrawLemmas
 pub mod FieldLemmas
 pub mod FixedFiles
 pub mod LineLemmas
+pub mod MadeLengths
 pub mod MadeRules
 pub mod MadeStores
+pub mod MadeWeights
 pub mod RangeLemmas
 pub mod StockReads
 pub mod TableLemmas

@@ -116,7 +116,7 @@ stock-table : (seed : ℕ) → table_of (stock_columns false) (made_stock seed) 
 unfolding made_stock
 stock-table seed = table-read (stock_columns false) (stock_rows seed) (omega arith) refl columns-plain (rows-plain seed) (stock-start seed)
 
-stock-count : (seed : ℕ) → length (stock_rows seed) ≡ 24
+pub stock-count : (seed : ℕ) → length (stock_rows seed) ≡ 24
 unfolding stock_rows
 stock-count seed = length-map (numbers 1 24) (made_row seed) ∙ numbers-length 1 24
 
