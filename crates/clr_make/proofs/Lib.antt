@@ -7,6 +7,7 @@ pub mod FixedFiles
 pub mod LineLemmas
 pub mod MadeLengths
 pub mod MadeRules
+pub mod MadeSeason
 pub mod MadeStores
 pub mod MadeWeights
 pub mod RangeLemmas
