@@ -1,8 +1,8 @@
 -- What the demand file of a made season reads to, before its totals.
-use Rattle.std.proofs.Common.{◌≡◌, ◌≢◌, ◌<◌, ◌≤◌, ◌+◌, ◌∙◌, ℕ, zero, suc, List, [], ◌∷◌, ◌++◌, length, map, Bool, true, false, Ok, Option, None, Some, refl, sym, ap, arith, append_assoc, decimal, rules}
+use Rattle.std.proofs.Common.{◌≡◌, ◌<◌, ◌≤◌, ◌+◌, ◌∙◌, ℕ, suc, List, [], ◌∷◌, ◌++◌, map, Bool, true, false, Ok, Option, None, Some, refl, sym, ap, arith, append_assoc, rules}
 use Rattle.std.specs.Prelude.{◌&&◌, ◌==◌, unwrap_or}
 use Rattle.std.specs.List.{AllByRecursion, list_all}
-use Rattle.std.proofs.lemmas.Bool.{eqb-true, ne_eqb}
+use Rattle.std.proofs.lemmas.Bool.{eqb-true}
 use Rattle.std.proofs.lemmas.List.{append-nil}
 use Rattle.csv.proofs.OnLiterals.{csv_on_literals}
 use Rattle.csv.specs.Reading.{strip_bom}
@@ -10,8 +10,8 @@ use Rattle.clr_num.specs.Lists.{numbers}
 use Rattle.clr_num.specs.Money.{padded}
 use Rattle.clr_text.specs.Judged.{judged}
 use Rattle.clr_text.specs.Names.{number_of}
-use Rattle.clr_text.specs.Tables.{Rows, table_of}
-use Rattle.clr_demand.specs.Demand.{IsListed, demand_columns, demand_row, listed_at, listed_of, row_from, row_of, same_demand}
+use Rattle.clr_text.specs.Tables.{table_of}
+use Rattle.clr_demand.specs.Demand.{IsListed, demand_columns, demand_row, listed_at, listed_of, row_from, same_demand}
 use Rattle.clr_make.specs.Made.{demand_rows, lines, made_demand, store_name}
 use Rattle.clr_make.proofs.DemandRows.{AreInOrder, Listed, fields_of, listed-fields, made-order, made_listed, made_sizes, place, place_of}
 use Rattle.clr_make.proofs.FieldLemmas.{number-read, plain-decimal, plain-name}

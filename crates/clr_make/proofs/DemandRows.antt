@@ -1,19 +1,10 @@
 -- The rows of a made demand file: each lists a demand of the season, and no two list the same one.
-use Rattle.std.proofs.Common.{◌≡◌, ◌≢◌, ◌<◌, ◌≤◌, ◌+◌, ◌-◌, ◌*◌, ◌/◌, ◌%◌, ◌^◌, ◌∙◌, ℕ, zero, suc, List, [], ◌∷◌, ◌++◌, length, map, Bool, true, false, Ok, Option, None, Some, refl, sym, ap, arith, append_assoc, codes, decimal, rules}
-use Rattle.std.specs.Prelude.{◌&&◌, ◌==◌, unwrap_or, Result}
-use Rattle.std.specs.List.{AllByRecursion, flat_map, list_all}
-use Rattle.std.proofs.lemmas.Bool.{eq-eqb, eqb-true, ne_eqb}
-use Rattle.std.proofs.lemmas.List.{append-nil, length-map, map-append}
+use Rattle.std.proofs.Common.{◌≡◌, ◌<◌, ◌≤◌, ◌+◌, ◌*◌, ◌∙◌, ℕ, zero, suc, List, [], ◌∷◌, ◌++◌, length, map, refl, ap, arith}
+use Rattle.std.specs.List.{flat_map}
 use Rattle.clr_num.specs.Lists.{numbers}
-use Rattle.clr_num.specs.Money.{padded}
-use Rattle.clr_text.specs.Judged.{judged}
-use Rattle.clr_text.specs.Names.{number_of}
-use Rattle.clr_demand.specs.Demand.{IsListed, demand_row, balanced_rung, listed_at, row_from, row_of, same_demand, top_of}
-use Rattle.clr_make.specs.Draws.{draw}
-use Rattle.clr_make.specs.Made.{demand_fields, demand_rows, demand_rows_from, draw_number, least_demand, rung_rows, store_name, store_rows, week_rows}
-use Rattle.clr_make.proofs.FieldLemmas.{number-read, plain-decimal, plain-name}
-use Rattle.clr_make.proofs.RangeLemmas.{map-flat, passes-at}
-use Rattle.clr_make.proofs.TableLemmas.{IsPlainRow}
+use Rattle.clr_demand.specs.Demand.{IsListed, balanced_rung, top_of}
+use Rattle.clr_make.specs.Made.{demand_fields, demand_rows, demand_rows_from, least_demand, rung_rows, store_rows, week_rows}
+use Rattle.clr_make.proofs.RangeLemmas.{map-flat}
 
 -- The types of a row and of the sizes, which their crate keeps to itself.
 abbrev item_of : (A B : Type 0) → (List A → B) → Type 0

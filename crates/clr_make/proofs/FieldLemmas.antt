@@ -1,13 +1,12 @@
 -- A field that is printed is read as its number.
-use Rattle.std.proofs.Common.{◌≡◌, ◌<◌, ◌≤◌, ◌+◌, ◌*◌, ◌%◌, ◌^◌, ◌∙◌, ℕ, suc, List, [], ◌∷◌, ◌++◌, length, Bool, true, false, Ok, Some, refl, sym, ap, arith, decimal, length-append}
-use Rattle.std.specs.Prelude.{◌&&◌, nat_le}
+use Rattle.std.proofs.Common.{◌≡◌, ◌<◌, ◌≤◌, ◌+◌, ◌%◌, ◌^◌, ℕ, List, [], ◌∷◌, ◌++◌, Bool, true, false, Ok, Some, refl, sym, arith, decimal}
+use Rattle.std.specs.Prelude.{◌&&◌}
 use Rattle.std.specs.Char.{is_ascii_digit}
 use Rattle.std.specs.List.{list_all}
-use Rattle.std.specs.Str.Parse.{digits_value}
 use Rattle.std.proofs.lemmas.Bool.{le-leb}
 use Rattle.std.proofs.lemmas.Fmt.{decimal_by_steps_wide, decimal_is_IsNumeral_wide}
 use Rattle.clr_num.specs.Money.{padded}
-use Rattle.clr_num.proofs.Fields.{Above, above-append, above-decimal, above-padded, above_lower}
+use Rattle.clr_num.proofs.Fields.{above-decimal, above-padded, above_lower}
 use Rattle.clr_text.specs.Fields.{whole_of}
 use Rattle.clr_text.specs.Judged.{number_at}
 use Rattle.clr_text.proofs.Numbers.{whole-number}

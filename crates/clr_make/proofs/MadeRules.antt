@@ -1,11 +1,8 @@
 -- The rules of a made season, and the path that stays on the first rung.
-use Rattle.std.proofs.Common.{◌≡◌, ◌<◌, ◌≤◌, ◌∙◌, ℕ, zero, suc, List, [], ◌∷◌, ◌++◌, length, true, refl, arith}
-use Rattle.std.specs.Prelude.{IsTrue, nat_le, nat_lt, slice_index}
+use Rattle.std.proofs.Common.{◌<◌, ◌≤◌, ℕ, suc, [], refl, arith}
+use Rattle.std.specs.Prelude.{nat_le, slice_index}
 use Rattle.std.specs.Bool.{passes}
-use Rattle.std.specs.List.{list_all}
 use Rattle.std.proofs.Common.{leb→le}
-use Rattle.clr_num.specs.Lists.{numbers}
-use Rattle.clr_num.specs.Prices.{IsLadder}
 use Rattle.clr_rules.specs.FirstPath.{SomePathObeys}
 use Rattle.clr_rules.specs.Rules.{IsRulebook, Rulebook, free_weeks, opening_path, rulebook_of}
 use Rattle.clr_rules.proofs.LiveLemmas.{live_from}

@@ -1,6 +1,5 @@
 -- The files of a made season read to a season of which some path obeys.
-use Rattle.std.proofs.Common.{◌≡◌, ◌≤◌, ◌∙◌, ℕ, suc, List, [], ◌∷◌, length, map, true, false, Ok, Some, refl, sym, ap, arith}
-use Rattle.std.specs.Prelude.{nat_le}
+use Rattle.std.proofs.Common.{◌≡◌, ◌≤◌, ◌∙◌, ℕ, List, length, Ok, Some, refl, ap, arith}
 use Rattle.std.proofs.lemmas.Bool.{le-leb}
 use Rattle.clr_io.specs.Files.{Files, held}
 use Rattle.clr_rules.specs.Rules.{free_weeks}
@@ -10,10 +9,8 @@ use Rattle.clr_season.specs.View.{season_from}
 use Rattle.clr_season.specs.declared.reads.File.{File}
 use Rattle.clr_season.specs.declared.reads.File.TheVariants.{Rules, Ladder, Stock, Demand}
 use Rattle.clr_make.specs.Made.{IsMade, made_demand, made_ladder, made_rules, made_stock}
-use Rattle.clr_make.specs.Reads.{HoldsMade, ReadInFolders, ReadsToSeason}
+use Rattle.clr_make.specs.Reads.{ReadInFolders}
 use Rattle.clr_make.specs.declared.files.Made.{Made}
-use Rattle.clr_make.proofs.DemandReads.{store_names}
-use Rattle.clr_make.proofs.DemandRows.{made_listed, made_sizes}
 use Rattle.clr_make.proofs.DemandTotals.{demand-read, made_weights}
 use Rattle.clr_make.proofs.FixedFiles.{ladder-read, made_limits, made_prices, rules-read}
 use Rattle.clr_make.proofs.MadeLengths.{demand-length, stock-length}
@@ -102,5 +99,9 @@ made-reads seed made is files folder holds = record {
   season = made_season seed;
   reads = made-in seed files folder (holds.rules ∙ ap Some is.rules) (holds.ladder ∙ ap Some is.ladder) (holds.stock ∙ ap Some is.stock) (holds.demand ∙ ap Some is.demand);
   valid = made-season seed;
+  stores = stores-length seed;
+  weeks = refl;
+  rungs = refl;
+  base = refl;
   some_path = made-path;
 }

@@ -1,19 +1,19 @@
 -- The stores of a made season.
-use Rattle.std.proofs.Common.{◌≡◌, ◌≢◌, ◌<◌, ◌≤◌, ◌+◌, ◌-◌, ◌*◌, ◌∙◌, ℕ, zero, suc, List, [], ◌∷◌, ◌++◌, length, map, get_or, Bool, true, false, None, refl, sym, ap, subst, arith}
+use Rattle.std.proofs.Common.{◌≡◌, ◌<◌, ◌≤◌, ◌+◌, ◌-◌, ◌*◌, ◌∙◌, ℕ, zero, suc, List, [], ◌∷◌, ◌++◌, length, map, false, sym, ap, subst, arith}
 use Rattle.std.specs.Prelude.{All}
-use Rattle.std.specs.List.{AllByRecursion, list_all, sum_by}
-use Rattle.std.specs.Option.{is_none, is_some}
+use Rattle.std.specs.List.{sum_by}
+use Rattle.std.specs.Option.{is_some}
 use Rattle.std.proofs.lemmas.List.{length-map, map-append}
 use Rattle.std.proofs.lemmas.List.Sums.{sum_by-cons}
 use Rattle.clr_num.specs.Lists.{numbers}
-use Rattle.clr_text.specs.Names.{AreDistinct, is_held, names_store, number_of}
+use Rattle.clr_text.specs.Names.{AreDistinct, is_held}
 use Rattle.clr_text.proofs.Apart.{distinct-more, distinct-none}
 use Rattle.clr_stock.specs.Stock.{AreStores, IsStore, Store}
 use Rattle.clr_season.specs.Season.{cells, most_cells, store_cells}
 use Rattle.clr_make.specs.Made.{made_units, store_name}
 use Rattle.clr_make.proofs.LineLemmas.{numbers-more}
 use Rattle.clr_make.proofs.MadeRules.{made_rulebook}
-use Rattle.clr_make.proofs.RangeLemmas.{numbers-length, passes-at}
+use Rattle.clr_make.proofs.RangeLemmas.{numbers-length}
 use Rattle.clr_make.proofs.StockReads.{made_names, made_store, made_stores, name-good, name-new, units-range}
 
 pub stores-length : (seed : ℕ) → length (made_stores seed) ≡ 24

@@ -1,15 +1,15 @@
 -- The weights of a made season: as many as there are demands, with the sum 100.
-use Rattle.std.proofs.Common.{◌≡◌, ◌<◌, ◌≤◌, ◌+◌, ◌*◌, ◌/◌, ◌∙◌, ℕ, zero, suc, List, [], ◌∷◌, ◌++◌, length, map, refl, sym, ap, arith, max}
+use Rattle.std.proofs.Common.{◌≡◌, ◌≤◌, ◌+◌, ◌*◌, ◌/◌, ◌∙◌, ℕ, zero, suc, List, [], ◌∷◌, ◌++◌, length, map, refl, ap, arith, max}
 use Rattle.std.specs.Prelude.{fold, sum}
 use Rattle.std.proofs.lemmas.List.{map-append}
 use Rattle.std.proofs.lemmas.List.Sums.{sum_by-append}
 use Rattle.clr_num.specs.Lists.{nth, numbers}
-use Rattle.clr_demand.specs.Demand.{key, listed_weight, sum_to, top_of, total, weight_of, weights_of}
+use Rattle.clr_demand.specs.Demand.{key, listed_weight, sum_to, top_of, total, weight_of}
 use Rattle.clr_demand.specs.Places.{AllWithin}
 use Rattle.clr_demand.specs.Weights.{weights_at}
 use Rattle.clr_demand.proofs.TotalLemmas.{listed-sum, sum_to-same}
 use Rattle.clr_demand.proofs.WeightLemmas.{length-map-numbers, nth-map-numbers}
-use Rattle.clr_make.proofs.DemandRows.{AreInOrder, Listed, made-order, made_listed, made_sizes, place, place_of}
+use Rattle.clr_make.proofs.DemandRows.{AreInOrder, Listed, made-order, made_listed, place, place_of}
 use Rattle.clr_make.proofs.DemandTotals.{made-total, made_weights}
 use Rattle.clr_make.proofs.LineLemmas.{numbers-more}
 

@@ -1,6 +1,5 @@
 -- What the stock file of a made season reads to.
-use Rattle.std.proofs.Common.{◌≡◌, ◌<◌, ◌≤◌, ◌+◌, ◌-◌, ◌%◌, ◌∙◌, ℕ, zero, suc, List, [], ◌∷◌, ◌++◌, length, map, Bool, true, false, Ok, Option, None, Some, refl, sym, ap, arith, append_assoc, add-one, codes, decimal, rules}
-use Rattle.std.specs.Prelude.{Err, Result}
+use Rattle.std.proofs.Common.{◌≡◌, ◌≤◌, ◌+◌, ◌-◌, ◌∙◌, ℕ, zero, suc, List, [], ◌∷◌, ◌++◌, length, map, true, false, Ok, Option, None, Some, refl, sym, ap, arith, codes, rules}
 use Rattle.std.specs.List.{AllByRecursion, list_all}
 use Rattle.std.specs.Option.{is_none}
 use Rattle.std.specs.Str.{chars, is_utf8}

@@ -1,7 +1,7 @@
 -- A table that is printed is read as its rows.
-use Rattle.std.proofs.Common.{◌≡◌, ◌<◌, ◌≤◌, ◌+◌, ◌∙◌, ℕ, zero, suc, List, [], ◌∷◌, ◌++◌, length, map, get_or, Bool, true, false, Ok, refl, sym, ap, arith, append_assoc, length-append}
-use Rattle.std.specs.Prelude.{reverse, ◌==◌, Some, codes}
-use Rattle.std.specs.List.{AllByRecursion, flat_map, join_with_byte, list_any}
+use Rattle.std.proofs.Common.{◌≡◌, ◌<◌, ◌≤◌, ◌+◌, ◌∙◌, ℕ, zero, suc, List, [], ◌∷◌, ◌++◌, length, map, true, false, Ok, refl, sym, ap, arith, length-append}
+use Rattle.std.specs.Prelude.{reverse, ◌==◌, Some}
+use Rattle.std.specs.List.{AllByRecursion, join_with_byte, list_any}
 use Rattle.std.proofs.lemmas.Bool.{ne_eqb}
 use Rattle.std.proofs.lemmas.List.{append-nil, reverse-append}
 use Rattle.csv.specs.Machine.{next_record}
@@ -10,7 +10,7 @@ use Rattle.csv.specs.Writing.{default_writer, field_text, fields_text, is_blank,
 use Rattle.csv.specs.declared.parser.State.TheVariants as st
 use Rattle.csv.proofs.RoundTrip.{read-write-many}
 use Rattle.clr_num.proofs.Fields.{Above, above-append}
-use Rattle.clr_text.specs.Fields.{cut_of, is_blank as is_cut, without_front}
+use Rattle.clr_text.specs.Fields.{cut_of, without_front}
 use Rattle.clr_text.specs.Tables.{Rows, same_texts, table_of}
 use Rattle.clr_text.proofs.FlatRows.{OfWidth, cut_all}
 use Rattle.clr_text.proofs.Widths.{table-good}

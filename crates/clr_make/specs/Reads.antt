@@ -1,5 +1,5 @@
--- Four files that read to a season, in whichever folder they lie.
-use Rattle.std.specs.Prelude.{◌≡◌, ℕ, List, Some, Ok}
+-- The files of a made season read to a season, in whichever folder they lie.
+use Rattle.std.specs.Prelude.{◌≡◌, ℕ, List, length, Some, Ok}
 use Rattle.clr_io.specs.Files.{Files, held}
 use Rattle.clr_rules.specs.FirstPath.{SomePathObeys}
 use Rattle.clr_season.specs.Reads.{path_of, season_in}
@@ -14,11 +14,15 @@ pub record HoldsMade (files : Files) (folder : List ℕ) (made : Made) : Type 0 
   pub stock : held (path_of folder Stock) files ≡ Some made.stock.items
   pub demand : held (path_of folder Demand) files ≡ Some made.demand.items
 
--- what a folder reads to is a season, and some path obeys its rules
+-- what a folder reads to is a season of these sizes, and some path obeys its rules
 pub record ReadsToSeason (files : Files) (folder : List ℕ) : Type 0 where
   pub season : Season
   pub reads : season_in files folder ≡ Ok season
   pub valid : IsSeason season
+  pub stores : length season.stores ≡ 24
+  pub weeks : season.rules.weeks ≡ 12
+  pub rungs : length season.rules.prices ≡ 6
+  pub base : season.base ≡ 100
   pub some_path : SomePathObeys season.rules
 
 -- each folder that holds the files reads to such a season

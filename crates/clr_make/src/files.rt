@@ -1,5 +1,6 @@
 //! The files of a made season.
 ghost use Rattle.clr_make.specs.Made.{IsMade, demand_rows, lines, stock_rows};
+ghost use Rattle.clr_make.specs.Reads.{ReadInFolders};
 ghost use Rattle.std.specs.Prelude.{◌≡◌, ◌≤◌, ◌++◌, IfOk, OnOk};
 
 use crate::draws::Draws;
@@ -33,7 +34,8 @@ pub struct Made {
 /// the stocks and the demands are drawn. The only error is want of memory.
 pub fn make_files(alloc: Global, seed: u32) -> Result<Made, AllocError>
     requires { seed ≤ 999999999 }
-    ensures { IfOk result (λ made. IsMade seed made) }
+    ensures files { IfOk result (λ made. IsMade seed made) }
+    ensures reads { IfOk result (λ made. ReadInFolders made) }
 {
     let rules = Vec::from_slice(alloc, RULES)?;
     let ladder = Vec::from_slice(alloc, LADDER)?;
