@@ -4,6 +4,7 @@ pub mod DemandTotals
 pub mod DrawLemmas
 pub mod FieldLemmas
 pub mod FixedFiles
+pub mod Folders
 pub mod LineLemmas
 pub mod MadeLengths
 pub mod MadeRules

@@ -1,6 +1,6 @@
 //! The files of a made season.
 ghost use Rattle.clr_make.specs.Made.{IsMade, demand_rows, lines, stock_rows};
-ghost use Rattle.clr_make.specs.Reads.{ReadInFolders};
+ghost use Rattle.clr_make.specs.Reads.{FilesAreHeld, ReadInFolders};
 ghost use Rattle.std.specs.Prelude.{◌≡◌, ◌≤◌, ◌++◌, IfOk, OnOk};
 
 use crate::draws::Draws;
@@ -49,6 +49,11 @@ pub fn make_files(alloc: Global, seed: u32) -> Result<Made, AllocError>
         demand,
     })
 }
+
+/// A folder with these four files and nothing else holds each of them under its name.
+pub fn folder_holds_made()
+    ensures { FilesAreHeld }
+{}
 
 /// Draws all stores and appends their rows of stock.csv and of demand.csv.
 fn print_stores(seed: u32, stock: &mut Vec<u8>, demand: &mut Vec<u8>) -> Result<(), AllocError>

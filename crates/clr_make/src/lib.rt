@@ -5,4 +5,4 @@ mod draws;
 mod files;
 mod rows;
 
-pub use files::{Made, make_files};
+pub use files::{Made, folder_holds_made, make_files};
