@@ -1,5 +1,5 @@
 use Rattle.std.proofs.Common.{◌≡◌, ◌&&◌, ℕ, true, sym, ◌≤◌, ◌<◌, ◌+◌, ◌==◌, suc, ◌∙◌, cond, get_or, length, sum, take, subst, arith}
-use Rattle.std.proofs.lemmas.List.Sums.{sum_by_more, sum_by_more_le}
+use Rattle.std.proofs.lemmas.List.Sums.{sum_by-take-le, sum_by_more, sum_by_more_le}
 use Rattle.std.specs.List.{sum_by}
 use Rattle.clr_num.specs.Lists.{numbers}
 use Rattle.clr_rules.specs.LiveSummaries.{at_week, is_live_summary, leads_at}
@@ -57,6 +57,15 @@ returns-clause-came c =
     let all : c.loop-stock.stock ≡ length c.args.masses.now = omega (arith, c.loop-stock-test.false, c.loop-stock.auto.stock-end) in
     subst (λ n. CameIn (suc (store_at c.args.season.now c.args.store).units) (at_week (suc c.args.done) c.args.live.now) (λ t rest. sum_by (λ stock. arriving c.args.season.now c.args.store c.args.done c.args.s stock (get_or c.args.choices.now stock 0) (get_or c.args.masses.now stock 0) t rest) (numbers 0 n)) c.args.after.now c.loop-stock.after)
     all c.loop-stock.invariant.came
+
+pub returns-clause-part : goal.returns-clause-part
+returns-clause-part c = λ rung low high.
+    let within : Within c.args.used.now.stores c.args.used.now.weeks c.args.used.now.rungs c.args.store (suc c.args.done) rung
+    = record { store_from = c.requires.low; store_to = omega (arith, c.requires.high, c.requires.stores); week_from = omega arith; week_to = omega (arith, c.requires.early, c.requires.weeks); rung_from = low; rung_to = omega (arith, high, c.requires.rungs) } in
+    let now = c.loop-stock.invariant.used.entries c.args.store (suc c.args.done) rung within in
+    let some = some_part ((c.args.store == c.args.store) && (suc c.args.done == suc c.args.done)) (sum_by (λ stock. cond (rung == get_or c.args.choices.now stock 0) (get_or c.args.masses.now stock 0) 0) (numbers 0 c.loop-stock.stock)) in
+    let most = chosen_fits c.args.masses.now (λ stock. rung == get_or c.args.choices.now stock 0) c.loop-stock.stock (omega arith) in
+    omega (arith, now, some, most, sum_by-take-le (λ x. x) c.args.masses.now c.loop-stock.stock)
 
 pub returns-clause-used : goal.returns-clause-used
 returns-clause-used c =
