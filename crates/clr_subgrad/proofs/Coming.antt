@@ -6,7 +6,6 @@ use Rattle.std.proofs.lemmas.List.{get_or-set_other, get_or-set_same, length-rep
 use Rattle.std.proofs.lemmas.Nat.{div-mul-add}
 use Rattle.std.specs.List.{sum_by}
 use mathlib.Core.Path.{fun_ext}
-use Rattle.clr_num.specs.Lists.{numbers}
 use Rattle.clr_rules.specs.declared.season_rules.Summary.{Summary}
 use Rattle.clr_rules.specs.LiveSummaries.{same_summary}
 use Rattle.clr_rules.specs.Rules.{next_summary, summary}

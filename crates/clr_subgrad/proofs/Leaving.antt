@@ -1,5 +1,5 @@
 -- Where the masses of a summary go.
-use Rattle.std.proofs.Common.{◌≡◌, ℕ, zero, suc, ◌+◌, ◌≤◌, ◌<◌, Bool, true, false, cond, ◌&&◌, ◌==◌, ◌*◌, ◌/◌, refl, [], ◌∷◌, add_assoc, zero-mul, sym, ap, ◌∙◌, subst, arith, List, Option, Some, take, length, get_or, sum, add-one}
+use Rattle.std.proofs.Common.{◌≡◌, ℕ, zero, suc, ◌+◌, ◌≤◌, Bool, true, false, cond, ◌&&◌, ◌==◌, ◌*◌, ◌/◌, refl, [], ◌∷◌, add_assoc, zero-mul, sym, ap, ◌∙◌, subst, arith, List, Some, take, length, get_or, sum}
 use Rattle.std.proofs.lemmas.Bool.{and_parts}
 use Rattle.std.proofs.lemmas.List.Sums.{sum_by_more, sum_by-cons}
 use Rattle.std.specs.List.{sum_by}

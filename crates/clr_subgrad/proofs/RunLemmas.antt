@@ -1,15 +1,11 @@
 -- One step more of a run.
-use Rattle.std.proofs.Common.{◌≡◌, ℕ, zero, suc, ◌+◌, ◌-◌, ◌*◌, ◌<◌, ◌≤◌, refl, min, ℤ, pos, ◌≤ℤ◌, ◌<ℤ◌, List, [], ◌∷◌, ◌++◌, length, get_or, sym, ap, ap₂, ◌∙◌, subst, arith, add-one, below_more, Option, Some, None, unwrap_or, length-append, Result, Ok, Err, IfOk}
-use Rattle.std.proofs.Math.ListN.{get_or-append}
+use Rattle.std.proofs.Common.{◌≡◌, ℕ, zero, suc, ◌+◌, ◌*◌, ◌≤◌, refl, ℤ, pos, ◌≤ℤ◌, ◌<ℤ◌, sym, ap, ◌∙◌, subst, arith, below_more, Option, Some, None, unwrap_or, Result, Ok, Err, IfOk}
 use Rattle.std.proofs.lemmas.Int.{ints}
-use Rattle.std.proofs.lemmas.List.{get_or-append-add}
-use Rattle.clr_num.specs.Lists.{nth}
-use Rattle.clr_num.specs.Rounding.{ceil}
 use Rattle.clr_season.specs.Season.{Season}
 use Rattle.clr_model.specs.StoreValue.{Multipliers}
 use Rattle.clr_mult.specs.Steps.{IsSmall, stepped}
 use Rattle.clr_mult.specs.Tables.{EachEntry, SameSizes, Table, mult_at}
-use Rattle.clr_storedp.specs.Tables.{AreOfSeason, Entry, IsTableOf}
+use Rattle.clr_storedp.specs.Tables.{AreOfSeason}
 use Rattle.clr_subgrad.specs.declared.descent.Descent.{Descent}
 use Rattle.clr_subgrad.specs.Run.{IsFirstLeast, IsRunAt, run_bound, run_reach, run_table, step_factor, usage_table}
 
@@ -43,32 +39,6 @@ kept bound_at done at_step value new so_far is more = record {
   least = upto (λ k. value ≤ℤ bound_at k) done so_far.least (omega (arith, ints));
   first = so_far.first;
 }
-
--- ---- the tables
-
--- the tables of the first stores
-pub record AreFirstTables (m : Multipliers) (season : Season) (count : ℕ) (tables : List (List Entry)) : Type 0 where
-  pub count_is : length tables ≡ count
-  pub each : (store : ℕ) → 1 ≤ store → store ≤ count → IsTableOf ceil m season store (nth tables store [])
-
-pub no_tables : (m : Multipliers) (season : Season) (tables : List (List Entry)) → tables ≡ [] → AreFirstTables m season 0 tables
-no_tables m season tables is = record { count_is = ap length is; each = λ store p q. absurd (omega arith) }
-
-pub one_table : (m : Multipliers) (season : Season) (count : ℕ) (tables now : List (List Entry)) (table : List Entry) → AreFirstTables m season count tables → now ≡ tables ++ table ∷ [] → IsTableOf ceil m season (count + 1) table → AreFirstTables m season (count + 1) now
-one_table m season count tables now table are is here = record {
-  count_is = let size : length (tables ++ table ∷ []) ≡ length tables + 1 = length-append tables (table ∷ []) in ap length is ∙ omega (arith, size, are.count_is);
-  each = each;
-}
-  where
-    at_end : get_or (tables ++ table ∷ []) count [] ≡ table
-    at_end = let e : count ≡ length tables + 0 = omega (arith, are.count_is) in ap (λ k. get_or (tables ++ table ∷ []) k []) e ∙ get_or-append-add tables (table ∷ []) 0 []
-
-    each : (store : ℕ) → 1 ≤ store → store ≤ count + 1 → IsTableOf ceil m season store (nth now store [])
-    each zero p q = absurd (omega arith)
-    each (suc i) p q =
-        below_more (λ k. IsTableOf ceil m season (suc k) (get_or now k [])) count
-        (λ k lt. subst (IsTableOf ceil m season (suc k)) (sym (ap (λ t. get_or t k []) is ∙ get_or-append tables (table ∷ []) [] k (omega (arith, lt, are.count_is)))) (are.each (suc k) (omega arith) (omega arith)))
-        (subst (IsTableOf ceil m season (suc count)) (sym (ap (λ t. get_or t count []) is ∙ at_end)) (subst (λ n. IsTableOf ceil m season n table) (add-one count) here)) i (omega arith)
 
 -- ---- the run
 
@@ -139,7 +109,7 @@ small_wider low high mult le small store week rung w = wider low high (mult_at m
 pub none_small : (mult : Table ℤ) → EachEntry mult (λ store week rung. mult_at mult store week rung ≡ pos 0) → EachEntry mult (λ store week rung. IsSmall (run_reach 0) (mult_at mult store week rung))
 none_small mult zeros store week rung w = subst (IsSmall (run_reach 0)) (sym (zeros store week rung w)) (record { low = omega (arith, ints); high = omega (arith, ints) })
 
--- what holds of a result in four parts
-pub four : {X E : Type 0} (r : Result X E) (P Q R S G : X → Type 0) → IfOk r P → IfOk r Q → IfOk r R → IfOk r S → ((x : X) → P x → Q x → R x → S x → G x) → IfOk r G
-four (Ok x) P Q R S G p q r s h = h x p q r s
-four (Err e) P Q R S G p q r s h = tt
+-- what holds of a result in five parts
+pub five : {X E : Type 0} (r : Result X E) (P Q R S T G : X → Type 0) → IfOk r P → IfOk r Q → IfOk r R → IfOk r S → IfOk r T → ((x : X) → P x → Q x → R x → S x → T x → G x) → IfOk r G
+five (Ok x) P Q R S T G p q r s t h = h x p q r s t
+five (Err e) P Q R S T G p q r s t h = tt

@@ -1,5 +1,5 @@
 -- One demand more of a spread.
-use Rattle.std.proofs.Common.{◌≡◌, ℕ, zero, suc, ◌+◌, ◌-◌, ◌*◌, ◌/◌, ◌<◌, ◌≤◌, ◌==◌, Bool, true, false, cond, min, refl, List, [], ◌∷◌, ◌++◌, length, get_or, sum, take, sym, ap, ◌∙◌, subst, arith, mul-add, mul-le-mul_right, mul_comm, ap₂, add_assoc, length-set}
+use Rattle.std.proofs.Common.{◌≡◌, ℕ, suc, ◌+◌, ◌*◌, ◌/◌, ◌<◌, ◌≤◌, ◌==◌, Bool, true, false, cond, refl, List, length, get_or, sum, take, sym, ap, ◌∙◌, subst, arith, mul-add, mul-le-mul_right, mul_comm, ap₂, add_assoc, length-set}
 use Rattle.std.proofs.Math.ListN.{set}
 use Rattle.std.proofs.Math.Nat.{div-mul-le_self}
 use native.Mathlib.Nat.{le_of_mul-le-mul_left}

@@ -10,7 +10,7 @@ use Rattle.clr_num.specs.Lists.{numbers}
 use Rattle.clr_num.specs.Rounding.{ceil}
 use Rattle.clr_rules.specs.declared.season_rules.Summary.{Summary}
 use Rattle.clr_rules.specs.LiveSummaries.{IsAmong, at_week, is_live_summary, leads_at, live_pairs}
-use Rattle.clr_rules.specs.Rules.{HasSummary, IsRulebook}
+use Rattle.clr_rules.specs.Rules.{HasSummary}
 use Rattle.clr_rules.proofs.LiveLaw.{week_is}
 use Rattle.clr_rules.proofs.LiveLists.{bool_ext, leads-live}
 use Rattle.clr_rules.proofs.SummaryLemmas.{live-keeps}

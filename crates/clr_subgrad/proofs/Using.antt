@@ -1,5 +1,5 @@
 -- What a mass adds to a usage, and the usage of the weeks and the stores so far.
-use Rattle.std.proofs.Common.{◌≡◌, ◌≢◌, ℕ, zero, suc, ◌+◌, ◌-◌, ◌*◌, ◌≤◌, ◌<◌, ◌==◌, ◌&&◌, nat_le, Bool, true, false, cond, refl, sym, ap, ap₂, ◌∙◌, subst, arith, add-one, List, length, map, length-set, mul_assoc}
+use Rattle.std.proofs.Common.{◌≡◌, ◌≢◌, ℕ, suc, ◌+◌, ◌*◌, ◌≤◌, ◌==◌, ◌&&◌, nat_le, Bool, true, false, cond, refl, sym, ap, ap₂, ◌∙◌, subst, arith, add-one, List, length, map, length-set, mul_assoc}
 use Rattle.std.proofs.Math.ListN.{set}
 use Rattle.std.proofs.lemmas.Bool.{eqb-true, eqb-false, leb-true, leb-false}
 use Rattle.std.specs.List.{flat_map}

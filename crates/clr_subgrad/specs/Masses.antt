@@ -1,5 +1,5 @@
 -- The sweep of a store's masses from one week to the next.
-use Rattle.std.specs.Prelude.{◌≡◌, ℕ, suc, ◌+◌, ◌*◌, ◌/◌, ◌≤◌, ◌==◌, ◌&&◌, if◌then◌else◌, List, get_or, length, slice_get, Some, sum}
+use Rattle.std.specs.Prelude.{◌≡◌, ℕ, suc, ◌+◌, ◌*◌, ◌/◌, ◌≤◌, ◌==◌, ◌&&◌, if◌then◌else◌, List, get_or, length, slice_get, Some}
 use Rattle.std.specs.List.{sum_by}
 use Rattle.clr_num.specs.Lists.{numbers}
 use Rattle.clr_rules.specs.declared.season_rules.Summary.{Summary}

@@ -1,5 +1,6 @@
 -- The run of steps from no multipliers, and the first of its tables whose bound is least.
 use Rattle.std.specs.Prelude.{◌≡◌, ℕ, zero, suc, ◌*◌, ◌+◌, ◌/◌, ◌≤◌, ◌<◌, max, min, List, length, ℤ, ◌≤ℤ◌, ◌<ℤ◌}
+use Rattle.clr_average.specs.Average.{IsWithin}
 use Rattle.clr_num.specs.Rounding.{ceil}
 use Rattle.clr_rules.specs.Rules.{price}
 use Rattle.clr_season.specs.Season.{Season}
@@ -45,4 +46,5 @@ pub record IsRunAt (season : Season) (a step : ℕ) (mult : Table ℤ) (value : 
   pub tables_are : AreTablesOf ceil (mult_at mult) season tables
   pub of_season : AreOfSeason season mult
   pub small : EachEntry mult (λ store week rung. IsSmall (run_reach step) (mult_at mult store week rung))
+  pub size : IsWithin 100000000000000000000 value
   pub tops : Tops season value

@@ -134,7 +134,15 @@ pub fn usage(
 {
     let mut used = Usage::zero(alloc, season.stores(), season.weeks(), season.rungs())?;
     for (index, table) in tables.iter().enumerate() {
-        use_store(alloc, season, live, mult, table, index as u32 + 1, &mut used)?;
+        use_store(
+            alloc,
+            season,
+            live,
+            mult,
+            table,
+            index as u32 + 1,
+            &mut used,
+        )?;
     }
     Ok(used)
 }

@@ -4,14 +4,7 @@ ghost use Rattle.clr_subgrad.specs.Masses.{spread};
 
 /// Adds to the masses after a week what the demands take of a mass at a stock: to the stock that is left, of those which
 /// start at `start`, the mass times the demand's weight by the base, rounded down.
-pub fn spread(
-    mass: u32,
-    weights: &[u32],
-    base: u32,
-    stock: usize,
-    start: usize,
-    after: &mut [u32],
-)
+pub fn spread(mass: u32, weights: &[u32], base: u32, stock: usize, start: usize, after: &mut [u32])
     requires base { 1 ≤ base }
     requires most { base ≤ 1000000 }
     requires whole { sum weights.now ≡ base }

@@ -1,8 +1,7 @@
-use Rattle.std.proofs.Common.{◌≡◌, ◌+◌, ◌-◌, ℤ, ◌<ℤ◌, ◌≤ℤ◌, true, false, SFits, to_z, of_z, rules, subst, sym, arith, unwrap_or}
-use Rattle.std.proofs.lemmas.Int.{ints, to_z-of_z}
+use Rattle.std.proofs.Common.{◌≡◌, ◌+◌, ◌-◌, ℤ, ◌<ℤ◌, ◌≤ℤ◌, true, false, SFits, to_z, of_z, rules, subst, arith, unwrap_or}
+use Rattle.std.proofs.lemmas.Int.{ints}
 use lib.Signed.{lt_z}
 use mir.Syntax.{w128}
-use Rattle.clr_subgrad.specs.declared.descent.Descent.{Descent}
 use Rattle.clr_subgrad.specs.Run.{IsFirstLeast, run_bound}
 use Rattle.clr_subgrad.proofs.RunLemmas.{Stands, walk_better, walk_kept}
 use Rattle.clr_subgrad.proofs.descent.descend.Goals as goal
@@ -17,8 +16,7 @@ more new value f h t = omega (arith, ints)
 pub advance-requires-clause-run : goal.advance-requires-clause-run
 advance-requires-clause-run c =
     let e : c.loop-done.done ≡ c.loop-done.done + 1 - 1 = omega arith in
-    subst (Stands c.args.season.now c.args.a (c.loop-done.done + 1 - 1)) (sym c.latest.ensures)
-    (subst (λ n. Stands c.args.season.now c.args.a n (unwrap_or c.loop-done.own c.loop-done.best)) e c.loop-done.invariant.latest)
+    subst (λ n. Stands c.args.season.now c.args.a n (unwrap_or c.loop-done.own c.loop-done.best)) e c.loop-done.invariant.latest
 
 pub loop-done-preserved : goal.loop-done-preserved
 loop-done-preserved c =

@@ -1,6 +1,6 @@
-use Rattle.std.proofs.Common.{◌≡◌, ℕ, ◌+◌, ◌*◌, ◌-◌, ◌<◌, suc, refl, [], length, slice_get, Option, Some, unwrap_or, ap, sym, ◌∙◌, subst, arith}
+use Rattle.std.proofs.Common.{◌≡◌, ℕ, ◌+◌, ◌*◌, ◌-◌, ◌<◌, suc, refl, [], length, Option, Some, unwrap_or, ap, sym, ◌∙◌, subst, arith}
 use Rattle.std.specs.Option.{IsSome}
-use Rattle.clr_rules.specs.LiveSummaries.{IsIn, at_week}
+use Rattle.clr_rules.specs.LiveSummaries.{at_week}
 use Rattle.clr_rules.specs.Rules.{Rulebook, summary}
 use Rattle.clr_season.specs.Season.{store_at}
 use Rattle.clr_storedp.proofs.Lists.{got_inside, in_rows}

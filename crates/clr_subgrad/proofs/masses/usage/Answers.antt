@@ -1,4 +1,4 @@
-use Rattle.std.proofs.Common.{◌≡◌, ◌+◌, ◌<◌, ◌≤◌, rules, suc, length, sym, subst, arith, add-one}
+use Rattle.std.proofs.Common.{◌≡◌, ◌≤◌, rules, length, sym, subst, arith, add-one}
 use Rattle.clr_num.specs.Rounding.{ceil}
 use Rattle.clr_mult.specs.Tables.{mult_at}
 use Rattle.clr_storedp.specs.Tables.{IsTableOf}

@@ -1,4 +1,4 @@
-use Rattle.std.proofs.Common.{◌≡◌, ◌+◌, ◌≤◌, suc, length, refl, sym, ap, ◌∙◌, subst, arith, add-one}
+use Rattle.std.proofs.Common.{◌≤◌, suc, length, refl, sym, ◌∙◌, subst, arith, add-one}
 use Rattle.clr_rules.specs.LiveSummaries.{at_week}
 use Rattle.clr_season.specs.Season.{store_at}
 use Rattle.clr_model.specs.Usage.{mass}

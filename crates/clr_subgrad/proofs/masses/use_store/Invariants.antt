@@ -1,7 +1,7 @@
-use Rattle.std.proofs.Common.{◌≡◌, ◌≤◌, ◌==◌, ◌&&◌, suc, cond, length, nat_le, sum}
+use Rattle.std.proofs.Common.{◌≡◌, ◌≤◌, suc, length, sum}
 use Rattle.clr_rules.specs.LiveSummaries.{at_week}
 use Rattle.clr_season.specs.Season.{store_at}
-use Rattle.clr_model.specs.Usage.{mass, usage}
+use Rattle.clr_model.specs.Usage.{mass}
 use Rattle.clr_mult.specs.Tables.{EachEntry, SameSizes, mult_at, usage_at}
 use Rattle.clr_storedp.specs.Rows.{AreRows}
 use Rattle.clr_subgrad.proofs.Using.{week_used}

@@ -1,4 +1,4 @@
-use Rattle.std.proofs.Common.{◌≡◌, ◌&&◌, ℕ, true, sym, ◌≤◌, ◌<◌, ◌+◌, ◌==◌, suc, ◌∙◌, cond, get_or, length, sum, take, subst, arith}
+use Rattle.std.proofs.Common.{◌≡◌, ◌&&◌, ℕ, true, sym, ◌<◌, ◌==◌, suc, ◌∙◌, cond, get_or, length, subst, arith}
 use Rattle.std.proofs.lemmas.List.Sums.{sum_by-take-le, sum_by_more, sum_by_more_le}
 use Rattle.std.specs.List.{sum_by}
 use Rattle.clr_num.specs.Lists.{numbers}
