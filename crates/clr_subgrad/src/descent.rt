@@ -39,7 +39,7 @@ fn step_factor(season: &Season, a: u32, step: u32) -> u64
     ensures size { result ≤ 100000000 }
     ensures later { 2 ≤ step → result ≤ 50000000 }
 {
-    let rungs = season.rungs();
+    prove!(1 <= season.rungs());
     let whole = u64::from(a) * season.price(1);
     (whole / u64::from(step)).max(1)
 }

@@ -40,7 +40,8 @@ fn first_masses(
     Ok(masses)
 }
 
-/// Counts the masses of a week as usage, and gives those after it.
+/// Counts the masses of a week as usage, and gives those after it. `mult` are the multipliers that the table was made under;
+/// the contract alone reads them.
 fn next_masses(
     alloc: Global,
     season: &Season,
