@@ -13,12 +13,12 @@ pub struct Files {
 }
 
 // The season of a folder with these files.
-pub fn season_of(
+pub fn season_of<'x>(
     alloc: Global,
-    rules: &str,
-    ladder: &str,
-    stock: &str,
-    demand: &str,
+    rules: &'x str,
+    ladder: &'x str,
+    stock: &'x str,
+    demand: &'x str,
 ) -> Result<Season, Fail> {
     let mut files = Vec::new(alloc);
     let texts = [
