@@ -1,10 +1,9 @@
 -- One step more of a run.
-use Rattle.std.proofs.Common.{◌≡◌, ℕ, zero, suc, ◌+◌, ◌*◌, ◌≤◌, refl, ℤ, pos, ◌≤ℤ◌, ◌<ℤ◌, sym, ap, ◌∙◌, subst, arith, below_more, Option, Some, None, unwrap_or, Result, Ok, Err, IfOk}
+use Rattle.std.proofs.Common.{◌≡◌, ℕ, zero, suc, ◌+◌, ◌*◌, ◌≤◌, refl, ℤ, ◌≤ℤ◌, ◌<ℤ◌, sym, ap, ◌∙◌, subst, arith, below_more, Option, Some, None, unwrap_or, Result, Ok, Err, IfOk}
 use Rattle.std.proofs.lemmas.Int.{ints}
 use Rattle.clr_season.specs.Season.{Season}
-use Rattle.clr_model.specs.StoreValue.{Multipliers}
 use Rattle.clr_mult.specs.Steps.{IsSmall, stepped}
-use Rattle.clr_mult.specs.Tables.{EachEntry, SameSizes, Table, mult_at}
+use Rattle.clr_mult.specs.Tables.{EachEntry, Table, mult_at}
 use Rattle.clr_storedp.specs.Tables.{AreOfSeason}
 use Rattle.clr_subgrad.specs.declared.descent.Descent.{Descent}
 use Rattle.clr_subgrad.specs.Run.{IsFirstLeast, IsRunAt, run_bound, run_reach, run_table, step_factor, usage_table}
@@ -66,26 +65,12 @@ walk_kept season a done own best next so_far here more = record {
   least = kept (run_bound season a) done best.at_step best.bound next.bound so_far.least here.bound_is more;
 }
 
-pub walk_first : (season : Season) (a : ℕ) (best : Descent) → Stands season a 0 best → best.at_step ≡ 0 → IsWalked season a 0 None best
-walk_first season a best here step = record {
-  latest = here;
-  best_is = subst (λ n. Stands season a n best) (sym step) here;
-  least = subst (λ n. IsFirstLeast (run_bound season a) 0 n best.bound) (sym step) (first_of (run_bound season a) best.bound here.bound_is);
-}
-
 pub run_of_season : (season : Season) (a k : ℕ) → AreOfSeason season (run_table season a k)
 run_of_season season a zero = record { stores = refl; weeks = refl; rungs = refl }
 run_of_season season a (suc k) = let was = run_of_season season a k in record { stores = was.stores; weeks = was.weeks; rungs = was.rungs }
 
 pub of_season_as : (season : Season) (one other : Table ℤ) → one ≡ other → AreOfSeason season other → AreOfSeason season one
 of_season_as season one other is of = subst (AreOfSeason season) (sym is) of
-
-pub same_sizes : (season : Season) (m : Multipliers) (mult : Table ℤ) (used : Table ℕ) → AreOfSeason season mult → used ≡ usage_table m season → SameSizes mult used
-same_sizes season m mult used of is = record {
-  stores = of.stores ∙ sym (ap (λ (t : Table ℕ). t.stores) is);
-  weeks = of.weeks ∙ sym (ap (λ (t : Table ℕ). t.weeks) is);
-  rungs = of.rungs ∙ sym (ap (λ (t : Table ℕ). t.rungs) is);
-}
 
 pub run_next : (season : Season) (a k q : ℕ) (used : Table ℕ) (mult next : Table ℤ) → mult ≡ run_table season a k → q ≡ step_factor season a (suc k) → used ≡ usage_table (mult_at mult) season → next ≡ stepped q used mult → next ≡ run_table season a (suc k)
 run_next season a k q used mult next was q_is used_is next_is =
@@ -105,9 +90,6 @@ reach_next (suc k) q most later = let half : q ≤ 50000000 = later (omega arith
 
 pub small_wider : (low high : ℕ) (mult : Table ℤ) → low ≤ high → EachEntry mult (λ store week rung. IsSmall low (mult_at mult store week rung)) → EachEntry mult (λ store week rung. IsSmall high (mult_at mult store week rung))
 small_wider low high mult le small store week rung w = wider low high (mult_at mult store week rung) (small store week rung w) le
-
-pub none_small : (mult : Table ℤ) → EachEntry mult (λ store week rung. mult_at mult store week rung ≡ pos 0) → EachEntry mult (λ store week rung. IsSmall (run_reach 0) (mult_at mult store week rung))
-none_small mult zeros store week rung w = subst (IsSmall (run_reach 0)) (sym (zeros store week rung w)) (record { low = omega (arith, ints); high = omega (arith, ints) })
 
 -- what holds of a result in five parts
 pub five : {X E : Type 0} (r : Result X E) (P Q R S T G : X → Type 0) → IfOk r P → IfOk r Q → IfOk r R → IfOk r S → IfOk r T → ((x : X) → P x → Q x → R x → S x → T x → G x) → IfOk r G

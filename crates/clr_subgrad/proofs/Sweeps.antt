@@ -9,7 +9,7 @@ use Rattle.std.specs.List.{sum_by}
 use Rattle.clr_num.specs.Lists.{numbers}
 use Rattle.clr_num.specs.Rounding.{ceil}
 use Rattle.clr_rules.specs.declared.season_rules.Summary.{Summary}
-use Rattle.clr_rules.specs.LiveSummaries.{IsAmong, at_week, is_live_summary, leads_at, live_pairs}
+use Rattle.clr_rules.specs.LiveSummaries.{at_week, is_live_summary, leads_at, live_pairs}
 use Rattle.clr_rules.specs.Rules.{HasSummary}
 use Rattle.clr_rules.proofs.LiveLaw.{week_is}
 use Rattle.clr_rules.proofs.LiveLists.{bool_ext, leads-live}
@@ -22,7 +22,7 @@ use Rattle.clr_mult.specs.Tables.{Table, usage_at}
 use Rattle.clr_mult.proofs.Places.{get_or-repeated}
 use Rattle.clr_storedp.specs.BySummary.{summary_prefix}
 use Rattle.clr_storedp.specs.Rows.{AreRows, row_at}
-use Rattle.clr_storedp.specs.Tables.{Entry, IsTableOf, choices_of, stocks, table_pairs}
+use Rattle.clr_storedp.specs.Tables.{Entry, IsTableOf, choices_of, stocks}
 use Rattle.clr_storedp.proofs.Lists.{get_or-row_at, got, got_inside, length-row_at, row_end}
 use Rattle.clr_storedp.proofs.Prefixes.{prefix_is}
 use Rattle.clr_storedp.proofs.TableLemmas.{get_or-numbers, length-numbers}
@@ -119,9 +119,6 @@ module _ (m : Multipliers) (season : Season) (store done place : ℕ) (early : d
 
   pub inside : place < length (at_week done pairs)
   inside = got_inside (at_week done pairs) place s at
-
-  pub entry_here : IsAmong (table_pairs table) done s
-  entry_here = (place, subst (λ (ps : List (ℕ × Summary)). slice_get (at_week done ps) place ≡ Some s) (is ∙ sym table_is.pairs) at)
 
   pub choices_size : length (choices_of table done s) ≡ suc (store_at season store).units
   choices_size = ap length (choices_are m season store done early s live_here table table_is) ∙ length-numbers (choice_at m season store done s) 0 (suc (store_at season store).units)

@@ -1,14 +1,11 @@
 -- What a mass adds to a usage, and the usage of the weeks and the stores so far.
-use Rattle.std.proofs.Common.{◌≡◌, ◌≢◌, ℕ, suc, ◌+◌, ◌*◌, ◌≤◌, ◌==◌, ◌&&◌, nat_le, Bool, true, false, cond, refl, sym, ap, ap₂, ◌∙◌, subst, arith, add-one, List, length, map, length-set, mul_assoc}
+use Rattle.std.proofs.Common.{◌≡◌, ◌≢◌, ℕ, suc, ◌+◌, ◌*◌, ◌≤◌, ◌==◌, ◌&&◌, nat_le, Bool, true, false, cond, refl, sym, ap, ap₂, ◌∙◌, subst, arith, add-one, List, length, length-set, mul_assoc}
 use Rattle.std.proofs.Math.ListN.{set}
 use Rattle.std.proofs.lemmas.Bool.{eqb-true, eqb-false, leb-true, leb-false}
-use Rattle.std.specs.List.{flat_map}
-use Rattle.clr_num.specs.Lists.{numbers}
 use Rattle.clr_season.specs.Season.{Season}
 use Rattle.clr_model.specs.StoreValue.{Multipliers}
 use Rattle.clr_model.specs.Usage.{usage}
-use Rattle.clr_mult.specs.Tables.{EachEntry, SameSizes, Table, table_of, listed, Within, place, usage_at, zero_usage}
-use Rattle.clr_mult.proofs.Lists.{length-numbers, length-pieces}
+use Rattle.clr_mult.specs.Tables.{EachEntry, SameSizes, Table, table_of, listed, Within, place, usage_at}
 use Rattle.clr_mult.proofs.Places.{listed_is}
 use Rattle.clr_subgrad.specs.Masses.{IsUsed}
 use Rattle.clr_subgrad.specs.Run.{usage_table}
@@ -99,37 +96,6 @@ weeks_used m season store done first after s w r le is = is ∙ by_test (s == st
     by_test false b e = refl
 
 -- ---- the stores
-
-pub store_more : (m : Multipliers) (season : Season) (index : ℕ) (before after : Table ℕ) (s w r : ℕ) → usage_at before s w r ≡ cond (nat_le s index) (usage m season s w r) 0 → usage_at after s w r ≡ cond (s == index + 1) (usage m season s w r) (usage_at before s w r) →
-    usage_at after s w r ≡ cond (nat_le s (index + 1)) (usage m season s w r) 0
-store_more m season index before after s w r so_far is = is ∙ (ap (λ n. cond (s == index + 1) (usage m season s w r) n) so_far ∙ by_tests (s == index + 1) refl (nat_le s index) refl (nat_le s (index + 1)) refl)
-  where
-    by_tests : (a : Bool) → (s == index + 1) ≡ a → (b : Bool) → nat_le s index ≡ b → (c : Bool) → nat_le s (index + 1) ≡ c → cond a (usage m season s w r) (cond b (usage m season s w r) 0) ≡ cond c (usage m season s w r) 0
-    by_tests true e b f true g = refl
-    by_tests true e b f false g = absurd (omega (arith, eqb-true s (index + 1) e, leb-false s (index + 1) g))
-    by_tests false e true f true g = refl
-    by_tests false e true f false g = absurd (omega (arith, leb-true s index f, leb-false s (index + 1) g))
-    by_tests false e false f true g = let differ : s ≢ index + 1 = eqb-false s (index + 1) e in absurd (differ (omega (arith, leb-false s index f, leb-true s (index + 1) g)))
-    by_tests false e false f false g = refl
-
-pub later_none : (m : Multipliers) (season : Season) (index : ℕ) (before : Table ℕ) (s w r : ℕ) → usage_at before s w r ≡ cond (nat_le s index) (usage m season s w r) 0 → s ≡ index + 1 → usage_at before s w r ≡ 0
-later_none m season index before s w r so_far e = so_far ∙ by_test (nat_le s index) refl
-  where
-    by_test : (a : Bool) → nat_le s index ≡ a → cond a (usage m season s w r) 0 ≡ 0
-    by_test true f = absurd (omega (arith, leb-true s index f, e))
-    by_test false f = refl
-
-pub no_store : (m : Multipliers) (season : Season) (used : Table ℕ) → EachEntry used (λ s w r. usage_at used s w r ≡ 0) → EachEntry used (λ s w r. usage_at used s w r ≡ cond (nat_le s 0) (usage m season s w r) 0)
-no_store m season used zeros s w r within = zeros s w r within ∙ by_test (nat_le s 0) refl
-  where
-    by_test : (a : Bool) → nat_le s 0 ≡ a → 0 ≡ cond a (usage m season s w r) 0
-    by_test true f = absurd (omega (arith, leb-true s 0 f, within.store_from))
-    by_test false f = refl
-
-pub count_none : (stores weeks rungs : ℕ) (used : Table ℕ) → used ≡ zero_usage stores weeks rungs → length used.entries ≡ weeks * (rungs * stores)
-count_none stores weeks rungs used is =
-    ap (λ (t : Table ℕ). length t.entries) is
-    ∙ length-pieces (λ week. flat_map (λ rung. map (λ store. 0) (numbers 1 stores)) (numbers 1 rungs)) 1 weeks (rungs * stores) (λ week. length-pieces (λ rung. map (λ store. 0) (numbers 1 stores)) 1 rungs stores (λ rung. length-numbers (λ store. 0) 1 stores))
 
 pub usage_is : (m : Multipliers) (season : Season) (index : ℕ) (used : Table ℕ) → 1 ≤ length season.stores → 1 ≤ length season.rules.prices → used.stores ≡ length season.stores → used.weeks ≡ season.rules.weeks → used.rungs ≡ length season.rules.prices →
     length used.entries ≡ season.rules.weeks * (length season.rules.prices * length season.stores) → index ≡ length season.stores → EachEntry used (λ s w r. usage_at used s w r ≡ cond (nat_le s index) (usage m season s w r) 0) → used ≡ usage_table m season
