@@ -142,6 +142,7 @@ pub fn descend(
     ensures mult { IfOk result (λ descent. descent.mult ≡ run_table season.now a descent.at_step) }
     ensures tables { IfOk result (λ descent. AreTablesOf ceil (mult_at descent.mult) season.now descent.tables.items) }
     ensures of_season { IfOk result (λ descent. AreOfSeason season.now descent.mult) }
+    ensures small { IfOk result (λ descent. AreSmall descent.mult) }
     ensures size { IfOk result (λ descent. IsWithin 100000000000000000000 descent.bound) }
     ensures tops { IfOk result (λ descent. Tops season.now descent.bound) }
 {

@@ -1,9 +1,9 @@
-use Rattle.std.proofs.Common.{◌≡◌, ◌+◌, ◌-◌, ℤ, ◌<ℤ◌, ◌≤ℤ◌, true, false, SFits, to_z, of_z, rules, subst, arith, unwrap_or}
+use Rattle.std.proofs.Common.{◌≡◌, ◌+◌, ◌-◌, ℤ, ◌<ℤ◌, ◌≤ℤ◌, ◌≤◌, true, false, SFits, to_z, of_z, rules, subst, arith, unwrap_or}
 use Rattle.std.proofs.lemmas.Int.{ints}
 use lib.Signed.{lt_z}
 use mir.Syntax.{w128}
-use Rattle.clr_subgrad.specs.Run.{IsFirstLeast, run_bound}
-use Rattle.clr_subgrad.proofs.RunLemmas.{Stands, walk_better, walk_kept}
+use Rattle.clr_subgrad.specs.Run.{IsFirstLeast, run_bound, run_reach}
+use Rattle.clr_subgrad.proofs.RunLemmas.{Stands, reach_most, small_wider, walk_better, walk_kept}
 use Rattle.clr_subgrad.proofs.descent.descend.Goals as goal
 use Rattle.clr_subgrad.proofs.descent.descend.Goals.{then-next-best, else-next-best}
 
@@ -33,3 +33,8 @@ pub returns-clause-least : goal.returns-clause-least
 returns-clause-least c =
     let all : c.loop-done.done ≡ c.args.steps = omega (arith, c.loop-done-test.false, c.loop-done.auto.done-end) in
     subst (λ n. IsFirstLeast (run_bound c.args.season.now c.args.a) n c.loop-done.best.at_step c.loop-done.best.bound) all c.loop-done.invariant.least
+
+pub returns-clause-small : goal.returns-clause-small
+returns-clause-small c =
+    let few : c.loop-done.best.at_step ≤ 100 = omega (arith, c.loop-done.invariant.least.within, c.loop-done.auto.done-end, c.requires.steps) in
+    small_wider (run_reach c.loop-done.best.at_step) 10000000000000000 c.loop-done.best.mult (omega (arith, reach_most c.loop-done.best.at_step few)) c.loop-done.invariant.best_is.small
