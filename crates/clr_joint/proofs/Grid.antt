@@ -124,7 +124,7 @@ all_stocks_are (unit ∷ units) =
 
 -- ---- the last stores
 
-units_at : (xs : List Store) (i : ℕ) (d : Store) → i < length xs → get_or (map (λ s. s.units) xs) i 0 ≡ (get_or xs i d).units
+pub units_at : (xs : List Store) (i : ℕ) (d : Store) → i < length xs → get_or (map (λ s. s.units) xs) i 0 ≡ (get_or xs i d).units
 units_at [] i d lt = absurd (omega arith)
 units_at (x ∷ xs) zero d lt = refl
 units_at (x ∷ xs) (suc i) d lt = units_at xs i d (omega arith)

@@ -3,3 +3,10 @@ pub mod Limits
 pub mod Folds
 pub mod Grid
 pub mod FoldRows
+pub mod Averages
+pub mod Costs
+pub mod Values
+pub mod Rungs
+pub mod Ends
+pub mod Sizes
+pub mod WeekRows

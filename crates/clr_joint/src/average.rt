@@ -4,6 +4,7 @@ ghost use Rattle.clr_joint.specs.Stocks.{lists_of, place_in, stocks_at};
 ghost use Rattle.clr_model.specs.Fits.{fits};
 ghost use Rattle.clr_model.specs.JointWeek.{joint_base, joint_weighed};
 ghost use Rattle.clr_model.specs.Revenue.{full_stocks};
+ghost use Rattle.clr_season.specs.Season.{IsSeason};
 ghost use Rattle.clr_storedp.specs.Rows.{AreRows, AreWithin};
 ghost use Rattle.clr_storedp.specs.Weeks.{live_week};
 ghost use Rattle.std.specs.Prelude.{◌≡◌, ℕ, suc, ◌<◌, ◌≤◌, ◌+◌, ◌*◌, ℤ, pos, length, get_or, IfOk, IsTrue};
@@ -18,7 +19,8 @@ use std::alloc::{AllocError, Global};
 /// The base to the number of stores: what the chances of a week sum to.
 fn base_of_all(season: &Season) -> i128
     requires { IsTrue (fits season.now) }
-    ensures { result ≡ pos (joint_base season.now) }
+    ensures value { result ≡ pos (joint_base season.now) }
+    ensures facts { IsSeason season.now }
 {
     i128::from(season.base()).pow(season.stores())
 }
@@ -64,6 +66,7 @@ pub fn average_rows<R: Direction>(
     list: &[Summary],
     after: &[i64],
 ) -> Result<Vec<i64>, AllocError>
+    requires season { IsSeason season.now }
     requires fits { IsTrue (fits season.now) }
     requires early { done < season.now.rules.weeks }
     requires width { width ≡ lists_of (full_stocks season.now) }

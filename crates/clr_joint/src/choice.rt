@@ -5,7 +5,7 @@ ghost use Rattle.clr_joint.specs.Stocks.{lists_of};
 ghost use Rattle.clr_rules.specs.LiveSummaries.{at_week, is_live_summary, live_pairs};
 ghost use Rattle.clr_model.specs.Revenue.{full_stocks};
 ghost use Rattle.clr_storedp.specs.Rows.{AreRows, AreWithin};
-ghost use Rattle.std.specs.Prelude.{◌≡◌, ℕ, suc, ◌<◌, ◌≤◌, ◌-◌, ℤ, pos, length, get_or, EachIndex, IsTrue};
+ghost use Rattle.std.specs.Prelude.{◌≡◌, ℕ, suc, ◌<◌, ◌≤◌, ◌-◌, ℤ, pos, neg_ℤ, length, get_or, EachIndex, IsTrue};
 
 use clr_model::relabelling;
 use clr_num::Direction;
@@ -23,6 +23,14 @@ fn cost_of_all(season: &Season, before: u32, rung: u32) -> u64
         cost += relabelling(season, index + 1, before, rung);
     }
     cost
+}
+
+/// What is added to the averages for a rung after another.
+fn added(season: &Season, before: u32, rung: u32) -> i64
+    ensures value { result ≡ neg_ℤ (costs season.now before rung) }
+    ensures size { IsWithin 1000000000000000000 result }
+{
+    -(cost_of_all(season, before, rung) as i64)
 }
 
 /// One rung more: the values and the choices by the rungs up to it.
@@ -52,8 +60,8 @@ fn try_rung<R: Direction>(
     match lead(season.rules(), live, done, s, rung) {
         Some(place) => {
             let row = row_of(averages, values.len(), place as usize);
-            let cost = cost_of_all(season, s.last, rung) as i64;
-            raise_row(row, -cost, rung as u8, values, choices);
+            let more = added(season, s.last, rung);
+            raise_row(row, more, rung as u8, values, choices);
         }
         None => (),
     }
