@@ -183,3 +183,21 @@ last_lists_more season count stride stocks lt stride_is stocks_are =
   where
     turned : (a b : ℕ) → a * (b + 1) ≡ suc b * a
     turned a b = omega arith
+
+-- ---- the last list
+
+pub held_self : (units : List ℕ) → AreHeld units units
+held_self [] = tt
+held_self (unit ∷ units) = (omega arith, held_self units)
+
+place_last : (units : List ℕ) → place_in units units + 1 ≡ lists_of units
+place_last [] = omega arith
+place_last (unit ∷ units) =
+    let rest : place_in units units + 1 ≡ lists_of units = place_last units in
+    let split : suc unit * lists_of units ≡ unit * lists_of units + lists_of units = omega arith in
+    omega (arith, rest, split)
+
+pub last_list : (units : List ℕ) → stocks_at units (lists_of units - 1) ≡ units
+last_list units =
+    let place : lists_of units - 1 ≡ place_in units units = omega (arith, place_last units) in
+    ap (stocks_at units) place ∙ stocks_back units units (held_self units)

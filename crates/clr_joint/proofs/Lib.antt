@@ -10,3 +10,6 @@ pub mod Rungs
 pub mod Ends
 pub mod Sizes
 pub mod WeekRows
+pub mod Places
+pub mod Tables
+pub mod Built

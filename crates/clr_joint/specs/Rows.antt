@@ -1,5 +1,5 @@
 -- The rows that a table of all stores is made of.
-use Rattle.std.specs.Prelude.{◌≡◌, ℕ, ◌<◌, ℤ, List, [], ◌∷◌, length, map}
+use Rattle.std.specs.Prelude.{◌≡◌, ℕ, ◌<◌, ◌≤◌, ℤ, List, [], ◌∷◌, length, map}
 use Rattle.std.specs.List.{zip}
 use Rattle.clr_rules.specs.declared.season_rules.Summary.{Summary}
 use Rattle.clr_rules.specs.LiveSummaries.{at_week}
@@ -21,11 +21,12 @@ entry_of pairs units width lows tops pair =
 abbrev pub entries_of : List (ℕ × Summary) → List ℕ → ℕ → List WeekRows → List WeekRows → List Entry
 entries_of pairs units width lows tops = map (entry_of pairs units width lows tops) pairs
 
--- what holds of the rows of each table: as many rows as live summaries in each week, of one number for each list of stocks, and some
--- summary before the first week
+-- what holds of the rows of each table: as many rows as live summaries in each week, of one number for each of at most a million
+-- lists of stocks, and some summary before the first week
 pub record IsKept (pairs : List (ℕ × Summary)) (units : List ℕ) (width : ℕ) (lows tops : List WeekRows) : Type 0 where
   pub opens : 0 < length (at_week 0 pairs)
   pub width_is : width ≡ lists_of units
+  pub few : width ≤ 1000000
   pub low : IsInside pairs width lows
   pub top : IsInside pairs width tops
   pub weeks : length lows ≡ length tops

@@ -1,5 +1,5 @@
 -- The table of all stores together: an entry for each live summary.
-use Rattle.std.specs.Prelude.{◌≡◌, ℕ, ◌-◌, ◌&&◌, ◌==◌, nat_eq, if◌then◌else◌, nat_lt, ℤ, pos, List, [], length, get_or, map, IsTrue}
+use Rattle.std.specs.Prelude.{◌≡◌, ℕ, ◌-◌, Bool, ◌&&◌, ◌==◌, nat_eq, if◌then◌else◌, nat_lt, ℤ, pos, List, [], length, get_or, map, IsTrue}
 use Rattle.std.specs.List.{find, list_any}
 use Rattle.std.specs.Cmp.Lexicographic.{pointwise}
 use Rattle.std.specs.Option.{option_map_or}

@@ -9,8 +9,8 @@ ghost use Rattle.clr_model.specs.Revenue.{full_stocks};
 ghost use Rattle.clr_rules.specs.FirstPath.{SomePathObeys};
 ghost use Rattle.clr_rules.specs.LiveSummaries.{IsAmong, live_pairs};
 ghost use Rattle.clr_rules.specs.Rules.{summary};
-ghost use Rattle.clr_storedp.specs.Rows.{week_at};
-ghost use Rattle.std.specs.Prelude.{◌≡◌, ℕ, ◌<◌, ◌≤◌, ◌^◌, ℤ, pos, ◌+ℤ◌, ◌≤ℤ◌, [], length, IfOk, IsTrue};
+ghost use Rattle.clr_storedp.specs.Rows.{row_at, week_at};
+ghost use Rattle.std.specs.Prelude.{◌≡◌, ℕ, ◌+◌, ◌-◌, ◌*◌, ◌<◌, ◌≤◌, ◌^◌, ℤ, pos, ◌+ℤ◌, ◌≤ℤ◌, [], length, get_or, IfOk, IsTrue};
 
 use crate::week::{Week, weeks};
 use clr_num::{Down, Up};
@@ -63,6 +63,26 @@ fn week_of(weeks: &[Week], done: u32) -> &Week
     ensures { result.now ≡ week_at weeks.now done }
 {
     &weeks[weeks.len() - 1 - done as usize]
+}
+
+/// A value by the weeks done, the place of a summary's row and the place of a list of stocks.
+fn value_at(weeks: &[Week], width: usize, done: u32, row: usize, place: usize) -> i64
+    requires done { done < length weeks.now }
+    requires row { (row + 1) * width ≤ length (week_at weeks.now done).values }
+    requires place { place < width }
+    ensures { result ≡ get_or (row_at width (week_at weeks.now done).values row) place (pos 0) }
+{
+    row_of(week_of(weeks, done).values(), width, row)[place]
+}
+
+/// A choice by the same.
+fn choice_at(weeks: &[Week], width: usize, done: u32, row: usize, place: usize) -> u8
+    requires done { done < length weeks.now }
+    requires row { (row + 1) * width ≤ length (week_at weeks.now done).choices }
+    requires place { place < width }
+    ensures { result ≡ get_or (row_at width (week_at weeks.now done).choices row) place 0 }
+{
+    row_of(week_of(weeks, done).choices(), width, row)[place]
 }
 
 /// What all stores together can earn at most from each live summary and list of stocks on, rounded down each week and rounded up
@@ -132,8 +152,8 @@ impl Joint {
     {
         let row = self.live.find(done, s).unwrap_or(0) as usize;
         let place = place_of_stocks(&self.units, stocks);
-        let low = row_of(week_of(&self.lows, done).values(), self.width, row)[place];
-        let top = row_of(week_of(&self.tops, done).values(), self.width, row)[place];
+        let low = value_at(&self.lows, self.width, done, row, place);
+        let top = value_at(&self.tops, self.width, done, row, place);
         (low, top)
     }
 
@@ -145,7 +165,7 @@ impl Joint {
     {
         let row = self.live.find(done, s).unwrap_or(0) as usize;
         let place = place_of_stocks(&self.units, stocks);
-        u32::from(row_of(week_of(&self.lows, done).choices(), self.width, row)[place])
+        u32::from(choice_at(&self.lows, self.width, done, row, place))
     }
 
     /// The value rounded down before the first week at full stocks.
@@ -153,7 +173,7 @@ impl Joint {
         ensures value { result ≡ (opening self.now).0 }
         ensures size { IsWithin 1000000000000000000 result }
     {
-        week_of(&self.lows, 0).values()[self.width - 1]
+        value_at(&self.lows, self.width, 0, 0, self.width - 1)
     }
 
     /// The value rounded up before the first week at full stocks.
@@ -161,6 +181,6 @@ impl Joint {
         ensures value { result ≡ (opening self.now).1 }
         ensures size { IsWithin 1000000000000000000 result }
     {
-        week_of(&self.tops, 0).values()[self.width - 1]
+        value_at(&self.tops, self.width, 0, 0, self.width - 1)
     }
 }
