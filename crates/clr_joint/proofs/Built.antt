@@ -15,7 +15,7 @@ use Rattle.clr_rules.proofs.LiveLists.{same_self}
 use Rattle.clr_season.specs.Season.{Season, IsSeason}
 use Rattle.clr_model.specs.Fits.{fits}
 use Rattle.clr_model.specs.JointLaws.{TableEnclosed}
-use Rattle.clr_model.specs.JointValue.{joint_low, joint_low_at, joint_rung_at, joint_top, joint_top_at, joint_value_at}
+use Rattle.clr_model.specs.JointValue.{joint_low, joint_low_at, joint_rung_at, joint_table, joint_top, joint_top_at, joint_value_at}
 use Rattle.clr_model.specs.Revenue.{full_stocks, of_store}
 use Rattle.clr_model.specs.StoreValue.{AreStocks}
 use Rattle.clr_storedp.specs.Rows.{IsInside, WeekRows, place_of, row_at, week_at}
@@ -23,10 +23,12 @@ use Rattle.clr_storedp.proofs.Lists.{got_inside}
 use Rattle.clr_storedp.proofs.TableLemmas.{get_or-numbers}
 use Rattle.clr_joint.specs.Rows.{IsKept, entries_of}
 use Rattle.clr_joint.specs.Stocks.{all_stocks, lists_of, place_in, stocks_at}
-use Rattle.clr_joint.specs.Tables.{Entry, HasStocks, IsJointOf, at_stocks, choices_of, is_at, opening, table_pairs, values_of}
+use Rattle.clr_joint.specs.Tables.{Entry, HasStocks, IsEnclosed, IsJointOf, at_stocks, choices_of, is_at, opening, table_pairs, values_of}
 use Rattle.clr_joint.specs.Weeks.{AreWeeks}
 use Rattle.clr_joint.proofs.Grid.{AreHeld, all_stocks_are, held_self, last_list, place_inside, stocks_back}
 use Rattle.clr_joint.proofs.Limits.{lists_most, lists_some}
+use Rattle.clr_model.specs.Expected.{Encloses, Tops}
+use Rattle.clr_model.proofs.JointBounds.{joint_table_enclosed_lem, joint_tops_lem, joint_values_close_lem}
 use Rattle.clr_joint.proofs.Tables.{among_live, inside_is, opening_is, value_row}
 
 module _ (season : Season) (pairs : List (ℕ × Summary)) (units : List ℕ) (width : ℕ) (lows tops : List WeekRows) (season_is : IsSeason season) (small : IsTrue (fits season)) (is : pairs ≡ live_pairs season.rules) (any : is_live season.rules [] ≡ true) (units_are : units ≡ full_stocks season) (width_is : width ≡ lists_of units)
@@ -88,7 +90,7 @@ module _ (season : Season) (pairs : List (ℕ × Summary)) (units : List ℕ) (w
 -- ---- what stands in a table with a list of stocks
 
 same_stocks : (stocks : List ℕ) → pointwise nat_eq stocks stocks ≡ true
-same_stocks stocks = nat_list_eq_equiv.reflexive stocks
+same_stocks stocks = nat_list_eq_equiv.refl stocks
 
 -- beside each list of stocks stands what a function gives
 found_beside : {X : Type 0} (f : List ℕ → X) (lists : List (List ℕ)) (stocks : List ℕ) (d : X) → HasStocks (map (λ stocks. (stocks, f stocks)) lists) stocks → at_stocks (map (λ stocks. (stocks, f stocks)) lists) stocks d ≡ f stocks
@@ -128,3 +130,22 @@ first_choice season table is any of =
     let early : nat_lt 0 season.rules.weeks ≡ true = lt-ltb 0 season.rules.weeks is.rules.first_week in
     ap (λ (items : List (List ℕ × ℕ)). at_stocks items (full_stocks season) 0) (of.choices [] any ∙ ap (λ b. cond b (map (λ stocks. (stocks, joint_rung_at season [] stocks)) (all_stocks (full_stocks season))) []) early)
     ∙ at_held (joint_rung_at season []) (full_stocks season) (full_stocks season) 0 (held_self (full_stocks season))
+
+-- ---- what the two values at the opening say
+
+pub tops_all : (season : Season) (table : List Entry) → IsSeason season → opening table ≡ (joint_low season, joint_top season) → Tops season (opening table).1
+tops_all season table is values = subst (Tops season) (sym (ap (λ (p : ℤ × ℤ). p.1) values)) (joint_tops_lem season is)
+
+pub enclosed : (season : Season) (table : List Entry) → IsSeason season → is_live season.rules [] ≡ true → opening table ≡ (joint_low season, joint_top season) → IsEnclosed season table
+enclosed season table is any values =
+    let known = joint_table_enclosed_lem season is any in
+    record {
+      abides = known.abides;
+      encloses = subst (λ (p : ℤ × ℤ). Encloses season p.0 p.1 (joint_table season)) (sym values) known.encloses;
+    }
+
+pub close : (season : Season) (table : List Entry) → IsSeason season → is_live season.rules [] ≡ true → opening table ≡ (joint_low season, joint_top season) → (opening table).1 ≤ℤ ((opening table).0 +ℤ pos season.rules.weeks)
+close season table is any values =
+    let all : season.rules.weeks - 0 ≡ season.rules.weeks = omega arith in
+    subst (λ (p : ℤ × ℤ). p.1 ≤ℤ (p.0 +ℤ pos season.rules.weeks)) (sym values)
+    (subst (λ n. joint_top season ≤ℤ (joint_low season +ℤ pos n)) all (joint_values_close_lem season [] (full_stocks season) is any))

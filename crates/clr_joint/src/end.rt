@@ -12,12 +12,7 @@ use std::alloc::{AllocError, Global};
 
 /// The worth of the lists of stocks with one store more, which goes slowest: each of its units is worth `unit`, and it has from none
 /// to one less than `stocks`.
-fn with_store(
-    alloc: Global,
-    row: &[i64],
-    unit: u64,
-    stocks: usize,
-) -> Result<Vec<i64>, AllocError>
+fn with_store(alloc: Global, row: &[i64], unit: u64, stocks: usize) -> Result<Vec<i64>, AllocError>
     requires some { 0 < length row.now }
     requires few { stocks * length row.now ≤ 1000000 }
     requires stocks { stocks ≤ 2001 }

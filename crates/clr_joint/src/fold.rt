@@ -45,7 +45,12 @@ fn cell(
     let mut total = 0;
     for (demand, weight) in weights.iter().enumerate() {
         let sold = demand.min(stock);
-        total = plus_demand(total, *weight, items[place - sold * stride], unit * sold as u128);
+        total = plus_demand(
+            total,
+            *weight,
+            items[place - sold * stride],
+            unit * sold as u128,
+        );
     }
     total
 }

@@ -9,6 +9,7 @@ ghost use Rattle.clr_model.specs.Revenue.{full_stocks};
 ghost use Rattle.clr_rules.specs.FirstPath.{SomePathObeys};
 ghost use Rattle.clr_rules.specs.LiveSummaries.{IsAmong, live_pairs};
 ghost use Rattle.clr_rules.specs.Rules.{summary};
+ghost use Rattle.clr_season.specs.Season.{IsSeason};
 ghost use Rattle.clr_storedp.specs.Rows.{row_at, week_at};
 ghost use Rattle.std.specs.Prelude.{◌≡◌, ℕ, ◌+◌, ◌-◌, ◌*◌, ◌<◌, ◌≤◌, ◌^◌, ℤ, pos, ◌+ℤ◌, ◌≤ℤ◌, [], length, get_or, IfOk, IsTrue};
 
@@ -22,7 +23,8 @@ use std::marker::Model;
 
 /// The units that the stores open with.
 fn opening_units(alloc: Global, season: &Season) -> Result<Vec<u32>, AllocError>
-    ensures { IfOk result (λ units. units.items ≡ full_stocks season.now) }
+    ensures units { IfOk result (λ units. units.items ≡ full_stocks season.now) }
+    ensures facts { IsSeason season.now }
 {
     let count = season.stores();
     let mut units = Vec::with_capacity(alloc, count as usize)?;

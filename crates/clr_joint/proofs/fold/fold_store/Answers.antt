@@ -27,7 +27,7 @@ cell-requires-clause-sizes c =
       c.args.season.now.base,
       fold_reach c.args.season.now.base c.args.folded,
       is_cell c.args.season.now.base c.args.folded c.args.power (c.from.result * c.args.power) (c.loop-place.place / c.args.stride % (c.stock.result + 1)) c.weights-weights.result.now c.args.items.now c.stores.ensures.facts.least_base c.weights-weights.ensures.whole c.requires.within c.requires.power
-      (mul-le-mul_right c.args.power unit) held (reach_most c.args.season.now c.stores.ensures.facts c.requires.fits (suc c.args.folded) (omega (arith, c.requires.folded))),
+          (mul-le-mul_right c.args.power unit) held (reach_most c.args.season.now c.stores.ensures.facts c.requires.fits (suc c.args.folded) (omega (arith, c.requires.folded))),
     )
 
 pub loop-place-preserved : goal.loop-place-preserved
