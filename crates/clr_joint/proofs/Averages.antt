@@ -1,5 +1,5 @@
 -- A week's averages, by summary and list of stocks.
-use Rattle.std.proofs.Common.{◌≡◌, ℕ, zero, suc, ◌+◌, ◌-◌, ◌*◌, ◌^◌, ◌≤◌, ◌<◌, ℤ, pos, ◌+ℤ◌, ◌*ℤ◌, true, List, [], ◌∷◌, ◌++◌, drop, length, get_or, slice_get, Some, arith, refl, ap, ap₂, sym, ◌∙◌, subst, inl, inr, length-append}
+use Rattle.std.proofs.Common.{◌≡◌, ℕ, suc, ◌+◌, ◌-◌, ◌*◌, ◌^◌, ◌≤◌, ◌<◌, ℤ, pos, ◌+ℤ◌, ◌*ℤ◌, List, ◌++◌, length, get_or, slice_get, Some, arith, ap, ap₂, sym, ◌∙◌, subst, inl, inr, length-append}
 use Rattle.std.proofs.Math.ListN.{get_or-append}
 use mathlib.Core.Path.{fun_ext}
 use Rattle.std.proofs.lemmas.Bool.{cases_lt}
@@ -11,7 +11,6 @@ use Rattle.clr_average.specs.Average.{IsWithin}
 use Rattle.clr_average.proofs.Sums.{sum_over-same}
 use Rattle.clr_average.proofs.Within.{within_more, within_quotient}
 use Rattle.clr_model.specs.Expected.{week_chance}
-use Rattle.clr_model.specs.Fits.{fits}
 use Rattle.clr_model.specs.JointFold.{fold_stores}
 use Rattle.clr_model.specs.JointWeek.{joint_base, joint_weighed}
 use Rattle.clr_model.specs.Policies.{joint_demands}
@@ -20,7 +19,7 @@ use Rattle.clr_model.proofs.JointFold.{joint_sum_by_stores_lem}
 use Rattle.clr_storedp.specs.Rows.{AreRows, AreWithin, row_at}
 use Rattle.clr_storedp.proofs.Lists.{get_or-row_at}
 use Rattle.clr_joint.specs.BySummary.{average_into, by_place, summary_value}
-use Rattle.clr_joint.specs.Folds.{AreFolded, fold_reach, last_units}
+use Rattle.clr_joint.specs.Folds.{AreFolded, fold_reach}
 use Rattle.clr_joint.specs.Stocks.{lists_of, place_in, stocks_at}
 use Rattle.clr_joint.proofs.Grid.{AreHeld, held_at, held_left, last_units_all, length-full_stocks, length-stocks_at, place_inside, stocks_back}
 

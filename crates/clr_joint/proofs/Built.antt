@@ -1,5 +1,5 @@
 -- What a built table gives.
-use Rattle.std.proofs.Common.{◌≡◌, ℕ, zero, suc, ◌+◌, ◌-◌, ◌*◌, ◌<◌, ◌≤◌, ◌||◌, Bool, true, false, cond, ℤ, pos, ◌+ℤ◌, ◌≤ℤ◌, List, [], ◌∷◌, length, map, get_or, slice_get, Some, IsTrue, nat_lt, nat_eq, refl, ap, ap₂, sym, ◌∙◌, subst, arith}
+use Rattle.std.proofs.Common.{◌≡◌, ℕ, zero, suc, ◌+◌, ◌-◌, ◌<◌, ◌≤◌, ◌||◌, Bool, true, false, cond, ℤ, pos, ◌+ℤ◌, ◌≤ℤ◌, List, [], ◌∷◌, length, map, get_or, slice_get, Some, IsTrue, nat_lt, nat_eq, refl, ap, ap₂, sym, ◌∙◌, subst, arith}
 use Rattle.std.proofs.lemmas.Bool.{lt-ltb}
 use Rattle.std.specs.Cmp.Lexicographic.{pointwise, same_text}
 use Rattle.std.proofs.lemmas.Cmp.{nat_list_eq_equiv}
@@ -8,22 +8,20 @@ use Rattle.std.specs.Option.{option_map_or}
 use Rattle.clr_num.specs.Lists.{numbers}
 use Rattle.clr_num.specs.Rounding.{ceil, floor}
 use Rattle.clr_rules.specs.declared.season_rules.Summary.{Summary}
-use Rattle.clr_rules.specs.Rules.{IsRulebook, is_live, summary}
+use Rattle.clr_rules.specs.Rules.{is_live, summary}
 use Rattle.clr_rules.specs.LiveSummaries.{IsAmong, at_week, live_pairs}
 use Rattle.clr_rules.proofs.LiveLaw.{live_pairs_lem}
 use Rattle.clr_rules.proofs.LiveLists.{same_self}
 use Rattle.clr_season.specs.Season.{Season, IsSeason}
 use Rattle.clr_model.specs.Fits.{fits}
-use Rattle.clr_model.specs.JointLaws.{TableEnclosed}
-use Rattle.clr_model.specs.JointValue.{joint_low, joint_low_at, joint_rung_at, joint_table, joint_top, joint_top_at, joint_value_at}
-use Rattle.clr_model.specs.Revenue.{full_stocks, of_store}
-use Rattle.clr_model.specs.StoreValue.{AreStocks}
+use Rattle.clr_model.specs.JointValue.{joint_low, joint_rung_at, joint_table, joint_top, joint_value_at}
+use Rattle.clr_model.specs.Revenue.{full_stocks}
 use Rattle.clr_storedp.specs.Rows.{IsInside, WeekRows, place_of, row_at, week_at}
 use Rattle.clr_storedp.proofs.Lists.{got_inside}
 use Rattle.clr_storedp.proofs.TableLemmas.{get_or-numbers}
 use Rattle.clr_joint.specs.Rows.{IsKept, entries_of}
 use Rattle.clr_joint.specs.Stocks.{all_stocks, lists_of, place_in, stocks_at}
-use Rattle.clr_joint.specs.Tables.{Entry, HasStocks, IsEnclosed, IsJointOf, at_stocks, choices_of, is_at, opening, table_pairs, values_of}
+use Rattle.clr_joint.specs.Tables.{Entry, HasStocks, IsEnclosed, IsJointOf, at_stocks, choices_of, is_at, opening}
 use Rattle.clr_joint.specs.Weeks.{AreWeeks}
 use Rattle.clr_joint.proofs.Grid.{AreHeld, all_stocks_are, held_self, last_list, place_inside, stocks_back}
 use Rattle.clr_joint.proofs.Limits.{lists_most, lists_some}

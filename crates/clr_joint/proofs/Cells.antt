@@ -1,16 +1,12 @@
 -- The sum over a store's demands at one place.
-use Rattle.std.proofs.Common.{◌≡◌, ℕ, zero, suc, ◌+◌, ◌-◌, ◌*◌, ◌^◌, ◌≤◌, ◌<◌, min, ℤ, pos, ◌+ℤ◌, ◌*ℤ◌, List, length, get_or, sum, arith, ap, ap₂, sym, ◌∙◌, subst, to_z, of_z, SFits, add-one, add-mul, mul-le-mul, mul-le-mul_left, mul-le-mul_right, le_refl}
+use Rattle.std.proofs.Common.{◌≡◌, ℕ, zero, suc, ◌+◌, ◌-◌, ◌*◌, ◌^◌, ◌≤◌, ◌<◌, min, ℤ, pos, ◌+ℤ◌, ◌*ℤ◌, List, length, get_or, arith, ap, ap₂, sym, ◌∙◌, subst, to_z, SFits, add-mul, mul-le-mul_left, mul-le-mul_right, le_refl}
 use Rattle.std.proofs.lemmas.Int.{ints, to_z-of_z}
 use mir.Syntax.{w128}
-use Rattle.clr_num.specs.Lists.{numbers}
-use Rattle.clr_num.specs.Sums.{sum_over}
 use Rattle.clr_average.specs.Average.{IsWithin, mass}
 use Rattle.clr_average.proofs.Masses.{mass_is_sum, mass_le}
 use Rattle.clr_average.proofs.Reading.{read, within_128}
-use Rattle.clr_average.proofs.Ring.{linear}
 use Rattle.clr_average.proofs.Sums.{sum_over-numbers_more}
 use Rattle.clr_average.proofs.Within.{within_more, within_pos, within_product, within_sum}
-use Rattle.clr_storedp.specs.Rows.{AreWithin}
 use Rattle.clr_joint.specs.Folds.{IsCell, cell_sum}
 
 -- ---- reading

@@ -1,8 +1,8 @@
 -- What all stores pay for relabelling stands outside the average.
-use Rattle.std.proofs.Common.{◌≡◌, ℕ, zero, suc, ◌*◌, ◌≤◌, ◌<◌, ℤ, pos, neg_ℤ, ◌+ℤ◌, ◌*ℤ◌, List, get_or, length, refl, sym, ap, ap₂, ◌∙◌, arith}
+use Rattle.std.proofs.Common.{◌≡◌, ℕ, zero, suc, ◌*◌, ◌≤◌, ◌<◌, ℤ, pos, neg_ℤ, ◌+ℤ◌, ◌*ℤ◌, List, get_or, length, refl, ap, ◌∙◌, arith}
 use lib.IntN.{*ℤ_comm}
 use Rattle.clr_num.specs.Direction.{IsDirection}
-use Rattle.clr_num.specs.Sums.{sum_over, sum_of}
+use Rattle.clr_num.specs.Sums.{sum_of}
 use Rattle.clr_season.specs.Season.{Season, IsSeason}
 use Rattle.clr_average.proofs.Ring.{linear, mul_add}
 use Rattle.clr_average.proofs.Sums.{sum_over-same, sum_over-add, sum_over-scale_right}

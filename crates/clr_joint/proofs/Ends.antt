@@ -1,16 +1,14 @@
 -- What the stocks are worth at the end, store by store.
-use Rattle.std.proofs.Common.{◌≡◌, ℕ, zero, suc, ◌+◌, ◌-◌, ◌*◌, ◌/◌, ◌%◌, ◌^◌, ◌≤◌, ◌<◌, ℤ, pos, neg_ℤ, ◌+ℤ◌, ◌*ℤ◌, ◌≤ℤ◌, List, [], ◌∷◌, length, get_or, arith, refl, ap, ap₂, sym, ◌∙◌, subst, to_z, of_z, SFits, add-one, mul-le-mul, mul_assoc}
+use Rattle.std.proofs.Common.{◌≡◌, ℕ, suc, ◌+◌, ◌-◌, ◌*◌, ◌/◌, ◌%◌, ◌≤◌, ◌<◌, ℤ, pos, ◌+ℤ◌, ◌*ℤ◌, List, ◌∷◌, length, get_or, arith, ap, ap₂, sym, ◌∙◌, subst, to_z, of_z, add-one, mul-le-mul, mul_assoc}
 use Rattle.std.proofs.lemmas.Int.{ints, to_z-of_z}
 use Rattle.std.proofs.lemmas.Nat.{div_below, mod_below}
 use mir.Syntax.{w64}
-use Rattle.clr_num.specs.Sums.{sum_of}
 use Rattle.clr_season.specs.Season.{Season, store_at}
 use Rattle.clr_average.specs.Average.{IsWithin}
-use Rattle.clr_average.proofs.Within.{within_64, within_more, within_pos, within_sum}
+use Rattle.clr_average.proofs.Within.{within_64, within_pos, within_sum}
 use Rattle.clr_model.specs.JointValue.{end_value}
 use Rattle.clr_model.specs.Revenue.{cent, full_stocks, salvage_cents}
 use Rattle.clr_model.proofs.Sums.{sum_of-same}
-use Rattle.clr_storedp.specs.Rows.{AreWithin}
 use Rattle.clr_joint.specs.Ends.{AreWorths, worth_from}
 use Rattle.clr_joint.specs.Folds.{last_units}
 use Rattle.clr_joint.specs.Stocks.{lists_of, stocks_at}

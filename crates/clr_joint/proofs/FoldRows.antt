@@ -1,10 +1,10 @@
 -- The last stores are folded one by one.
-use Rattle.std.proofs.Common.{◌≡◌, ℕ, zero, suc, ◌+◌, ◌-◌, ◌*◌, ◌/◌, ◌%◌, ◌^◌, ◌≤◌, ◌<◌, min, ℤ, pos, ◌+ℤ◌, ◌*ℤ◌, List, [], ◌∷◌, drop, length, get_or, arith, refl, ap, ap₂, sym, ◌∙◌, subst, add-one, add-mul, mul_assoc, mul-le-mul_left, mul-le-mul_right, length-drop}
+use Rattle.std.proofs.Common.{◌≡◌, ℕ, suc, ◌+◌, ◌-◌, ◌*◌, ◌/◌, ◌%◌, ◌^◌, ◌≤◌, ◌<◌, min, ℤ, pos, ◌+ℤ◌, ◌*ℤ◌, List, ◌∷◌, length, get_or, arith, refl, ap, ap₂, sym, ◌∙◌, subst, add-one, add-mul, mul_assoc, mul-le-mul_right, length-drop}
 use mathlib.Core.Path.{fun_ext}
 use Rattle.std.proofs.Math.Nat.{pow-zero}
 use Rattle.std.proofs.lemmas.Nat.{div_below, mod_below, div-mul-add, mod-mul-add}
 use Rattle.clr_num.specs.Sums.{sum_over}
-use Rattle.clr_season.specs.Season.{Season, IsSeason, demands, store_at, weight}
+use Rattle.clr_season.specs.Season.{Season, demands, store_at, weight}
 use Rattle.clr_average.specs.Average.{IsWithin}
 use Rattle.clr_average.proofs.Sums.{sum_over-same}
 use Rattle.clr_model.specs.JointFold.{fold_stores}

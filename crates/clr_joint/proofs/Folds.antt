@@ -1,13 +1,11 @@
 -- One store is folded into the items of a week.
-use Rattle.std.proofs.Common.{◌≡◌, ℕ, zero, suc, ◌+◌, ◌-◌, ◌*◌, ◌/◌, ◌%◌, ◌^◌, ◌≤◌, ◌<◌, min, ℤ, pos, neg_ℤ, ◌+ℤ◌, ◌-ℤ◌, ◌*ℤ◌, cond, List, [], ◌∷◌, ◌++◌, drop, length, map, get_or, sum, arith, refl, ap, ap₂, sym, ◌∙◌, subst, subst₂, le_trans, add-one, add-mul, mul-add, mul_assoc, mul_comm, mul-le-mul, mul-le-mul_left, mul-le-mul_right, below_more, length-append}
+use Rattle.std.proofs.Common.{◌≡◌, ℕ, suc, ◌+◌, ◌-◌, ◌*◌, ◌/◌, ◌%◌, ◌^◌, ◌≤◌, ◌<◌, min, ℤ, pos, ◌+ℤ◌, ◌-ℤ◌, ◌*ℤ◌, cond, List, [], ◌∷◌, ◌++◌, length, get_or, sum, arith, refl, ap, ap₂, sym, ◌∙◌, subst, mul_assoc, mul_comm, mul-le-mul, mul-le-mul_left, mul-le-mul_right, below_more, length-append}
 use Rattle.std.proofs.Math.ListN.{get_or-append}
 use Rattle.std.proofs.lemmas.Bool.{eq-eqb}
 use Rattle.std.proofs.lemmas.List.{get_or-append-add}
-use Rattle.std.proofs.lemmas.Nat.{div_below, mod_below}
-use Rattle.clr_num.specs.Lists.{numbers}
 use Rattle.clr_num.specs.Sums.{sum_over}
 use Rattle.clr_rules.specs.Rules.{price}
-use Rattle.clr_season.specs.Season.{Season, IsSeason, demands, store_at, weight, weights_of}
+use Rattle.clr_season.specs.Season.{Season, demands, store_at, weight, weights_of}
 use Rattle.clr_average.specs.Average.{IsWithin}
 use Rattle.clr_average.proofs.Ring.{linear}
 use Rattle.clr_average.proofs.Sums.{sum_over-same}

@@ -1,13 +1,12 @@
 -- Lists of stocks and their places.
-use Rattle.std.proofs.Common.{◌≡◌, ℕ, zero, suc, ◌+◌, ◌-◌, ◌*◌, ◌/◌, ◌%◌, ◌≤◌, ◌<◌, min, List, [], ◌∷◌, ◌++◌, drop, length, map, get_or, arith, refl, ap, ap₂, sym, ◌∙◌, subst, le_trans, add-one, add-mul, mul-le-mul_right, mul_assoc}
-use mathlib.Core.Path.{fun_ext}
+use Rattle.std.proofs.Common.{◌≡◌, ℕ, zero, suc, ◌+◌, ◌-◌, ◌*◌, ◌/◌, ◌%◌, ◌≤◌, ◌<◌, List, [], ◌∷◌, ◌++◌, drop, length, map, get_or, arith, refl, ap, ap₂, sym, ◌∙◌, subst, le_trans, add-one, mul-le-mul_right}
 use Rattle.std.specs.Bool.{⊤}
 use Rattle.std.specs.List.{flat_map}
 use Rattle.std.proofs.lemmas.List.{drop_more}
 use Rattle.std.proofs.lemmas.Nat.{div_below, mod_below, div-mul-add, mod-mul-add}
 use Rattle.clr_num.specs.Lists.{numbers}
 use Rattle.clr_stock.specs.Stock.{Store, no_store}
-use Rattle.clr_season.specs.Season.{Season, IsSeason, store_at}
+use Rattle.clr_season.specs.Season.{Season, store_at}
 use Rattle.clr_model.specs.Revenue.{full_stocks, left, stocks_left}
 use Rattle.clr_joint.specs.Folds.{last_units}
 use Rattle.clr_joint.specs.Stocks.{all_stocks, lists_of, place_in, stocks_at}

@@ -1,9 +1,8 @@
 -- What it says of a season that it is small enough.
-use Rattle.std.proofs.Common.{◌≡◌, ℕ, zero, suc, ◌+◌, ◌-◌, ◌*◌, ◌^◌, ◌≤◌, ◌<◌, min, true, IsTrue, nat_le, List, [], ◌∷◌, length, map, arith, refl, ap, ap₂, sym, ◌∙◌, subst, le_trans, mul-le-mul, mul-le-mul_left, mul-le-mul_right, mul_assoc, mul_comm, mul-add, add-mul, mul-suc}
+use Rattle.std.proofs.Common.{◌≡◌, ℕ, suc, ◌+◌, ◌-◌, ◌*◌, ◌^◌, ◌≤◌, min, true, IsTrue, nat_le, List, [], ◌∷◌, length, map, arith, refl, ap, ap₂, ◌∙◌, le_trans, mul-le-mul, mul-le-mul_right, mul_assoc, mul_comm, mul-add}
 use Rattle.std.proofs.Math.Nat.{pow-le-pow_right, pow-suc, pow-zero}
 use Rattle.std.proofs.lemmas.Bool.{and_parts, leb-true}
 use Rattle.clr_stock.specs.Stock.{Store}
-use Rattle.clr_rules.specs.Rules.{Rulebook}
 use Rattle.clr_season.specs.Season.{Season, IsSeason, stock_cells}
 use Rattle.clr_model.specs.Fits.{fits, joint_branches, joint_size, most_joint_base, most_joint_size, most_joint_stores, most_joint_work, stock_lists}
 use Rattle.clr_model.specs.JointWeek.{joint_base}

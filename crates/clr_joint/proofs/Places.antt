@@ -1,9 +1,8 @@
 -- The loops over the stores that find the number and the place of lists of stocks.
-use Rattle.std.proofs.Common.{◌≡◌, ℕ, zero, suc, ◌+◌, ◌*◌, ◌^◌, ◌≤◌, ◌<◌, List, [], ◌∷◌, ◌++◌, drop, take, length, map, get_or, arith, refl, ap, ap₂, sym, ◌∙◌, subst, add-mul, mul_assoc, mul-le-mul_left}
+use Rattle.std.proofs.Common.{◌≡◌, ℕ, zero, suc, ◌+◌, ◌*◌, ◌≤◌, ◌<◌, List, [], ◌∷◌, ◌++◌, drop, take, length, map, get_or, arith, refl, ap, ap₂, sym, ◌∙◌, add-mul, mul_assoc, mul-le-mul_left}
 use Rattle.std.proofs.lemmas.List.{drop_more}
 use Rattle.clr_stock.specs.Stock.{Store, no_store}
 use Rattle.clr_joint.specs.Stocks.{lists_of, place_in}
-use Rattle.clr_joint.proofs.Limits.{lists_some}
 
 -- ---- the number of lists
 

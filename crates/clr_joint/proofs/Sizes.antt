@@ -1,29 +1,27 @@
 -- How large the values of all stores together can be.
-use Rattle.std.proofs.Common.{◌≡◌, ℕ, zero, suc, ◌+◌, ◌-◌, ◌*◌, ◌≤◌, ◌<◌, min, ℤ, pos, neg_ℤ, ◌+ℤ◌, ◌-ℤ◌, ◌*ℤ◌, ◌≤ℤ◌, ◌==◌, Bool, true, false, cond, List, [], ◌∷◌, ◌++◌, get_or, length, map, IsTrue, arith, refl, ap, sym, ◌∙◌, subst, subst₂, mul_assoc, mul-add, mul-suc, mul-le-mul, mul-le-mul_left, mul-le-mul_right}
+use Rattle.std.proofs.Common.{◌≡◌, ℕ, zero, suc, ◌+◌, ◌*◌, ◌≤◌, ◌<◌, min, ℤ, pos, neg_ℤ, ◌+ℤ◌, ◌-ℤ◌, ◌*ℤ◌, ◌≤ℤ◌, ◌==◌, Bool, true, false, cond, List, [], ◌∷◌, ◌++◌, get_or, length, IsTrue, arith, refl, ap, sym, ◌∙◌, subst, mul_assoc, mul-add, mul-suc, mul-le-mul_right}
 use Rattle.clr_num.specs.Direction.{IsDirection}
 use Rattle.clr_num.specs.Sums.{sum_over, sum_of, first_best}
 use Rattle.clr_rules.specs.Rules.{is_live, live_rungs, price}
-use Rattle.clr_rules.proofs.LiveLemmas.{live-length, live-rung}
+use Rattle.clr_rules.proofs.LiveLemmas.{live-rung}
 use Rattle.clr_season.specs.Season.{Season, IsSeason, store_at}
-use Rattle.clr_average.specs.Average.{IsWithin}
 use Rattle.clr_average.proofs.Ring.{linear, scale_le}
 use Rattle.clr_average.proofs.Sums.{sum_over-scale_right}
 use Rattle.clr_average.proofs.Within.{quotient_high, quotient_low}
 use Rattle.clr_model.specs.Policies.{joint_demands}
-use Rattle.clr_model.specs.Revenue.{cent, earn, fee, left, week_cents, salvage_cents, sum_stores, of_store, full_stocks, stocks_left}
+use Rattle.clr_model.specs.Revenue.{cent, earn, fee, left, week_cents, salvage_cents, sum_stores, of_store, stocks_left}
 use Rattle.clr_model.specs.Expected.{week_chance}
 use Rattle.clr_model.specs.StoreValue.{last_rung}
 use Rattle.clr_model.specs.JointWeek.{joint_weighed, joint_base}
-use Rattle.clr_model.specs.JointValue.{joint_rung_value, joint_value, joint_value_at}
+use Rattle.clr_model.specs.JointValue.{joint_rung_value, joint_value}
 use Rattle.clr_model.proofs.Abiding.{length_more}
 use Rattle.clr_model.proofs.JointBounds.{best_live}
 use Rattle.clr_model.proofs.JointNumbers.{weeks_after}
 use Rattle.clr_model.proofs.Rows.{turn}
 use Rattle.clr_model.proofs.Sizes.{store_within}
 use Rattle.clr_model.proofs.Steps.{week_chance-pos}
-use Rattle.clr_model.proofs.Sums.{All-every, sum_over-le, sum_of-add, sum_of-le, sum_of-same}
+use Rattle.clr_model.proofs.Sums.{All-every, sum_over-le, sum_of-add, sum_of-le}
 use Rattle.clr_model.proofs.Weeks.{week_mass, of_store-stocks_left}
-use Rattle.clr_joint.proofs.Grid.{AreHeld, held_left}
 
 -- the most that a unit earns, and that relabelling costs
 abbrev unit : ℕ

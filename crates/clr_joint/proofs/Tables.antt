@@ -1,5 +1,5 @@
 -- A table's entries, and the rows that they are made of.
-use Rattle.std.proofs.Common.{◌≡◌, ◌⊎◌, ℕ, zero, suc, ◌+◌, ◌-◌, ◌*◌, ◌<◌, ◌≤◌, min, ◌==◌, ◌&&◌, ◌||◌, Bool, true, false, cond, ℤ, pos, List, [], ◌∷◌, length, map, get_or, slice_get, take, drop, Option, Some, IsTrue, refl, ap, ap₂, sym, ◌∙◌, subst, subst₂, arith, nat_lt, nat_eq, inl, inr}
+use Rattle.std.proofs.Common.{◌≡◌, ◌⊎◌, ℕ, zero, suc, ◌+◌, ◌-◌, ◌*◌, ◌<◌, ◌≤◌, min, ◌==◌, ◌&&◌, ◌||◌, Bool, true, false, cond, ℤ, pos, List, [], ◌∷◌, length, map, get_or, slice_get, Option, Some, refl, ap, ap₂, sym, ◌∙◌, subst, subst₂, arith, nat_lt, nat_eq, inl, inr}
 use mathlib.Core.Path.{fun_ext}
 use Rattle.std.proofs.lemmas.Bool.{and_parts, cases_lt, eqb-true, ltb-true, ltb-false}
 use Rattle.std.proofs.lemmas.Slice.Zip.{get_or-zip, length-zip}
@@ -18,7 +18,7 @@ use Rattle.clr_season.specs.Season.{Season}
 use Rattle.clr_average.specs.Average.{IsWithin}
 use Rattle.clr_model.specs.JointValue.{joint_low_at, joint_rung_at, joint_top_at, joint_value_at}
 use Rattle.clr_model.specs.Revenue.{full_stocks}
-use Rattle.clr_storedp.specs.Rows.{AreWithin, IsInside, WeekRows, place_of, row_at, week_at}
+use Rattle.clr_storedp.specs.Rows.{IsInside, WeekRows, place_of, row_at, week_at}
 use Rattle.clr_storedp.specs.Weeks.{live_week}
 use Rattle.clr_storedp.proofs.Lists.{got_inside, length-row_at}
 use Rattle.clr_storedp.proofs.TableLemmas.{among_any, is_pair, length-numbers, place_found, row_inside, row_is, row_none, row_small}

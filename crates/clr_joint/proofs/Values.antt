@@ -1,5 +1,5 @@
 -- A summary's value from the values after the week, over the rungs that lead to a live summary.
-use Rattle.std.proofs.Common.{◌≡◌, ℕ, ◌-◌, ◌^◌, ◌<◌, ◌≤◌, ℤ, ◌+ℤ◌, neg_ℤ, Bool, true, refl, sym, ap, ap₂, ◌∙◌, subst, arith, suc, List, [], ◌∷◌, ◌++◌, length, le_trans}
+use Rattle.std.proofs.Common.{◌≡◌, ℕ, ◌-◌, ◌^◌, ◌<◌, ◌≤◌, ℤ, true, sym, ap, ap₂, ◌∙◌, subst, arith, suc, List, [], ◌∷◌, ◌++◌, length, le_trans}
 use mathlib.Core.Path.{fun_ext}
 use Rattle.std.proofs.Math.Nat.{pow-le-pow_right, pow-zero}
 use Rattle.std.specs.List.{AllByRecursion}
@@ -24,7 +24,7 @@ use Rattle.clr_model.proofs.Sums.{All-imply}
 use Rattle.clr_storedp.specs.BySummary.{best_value, leads, summary_prefix}
 use Rattle.clr_storedp.proofs.Prefixes.{IsPrefixOf, live_summary_of, prefix_is}
 use Rattle.clr_storedp.proofs.WeekValues.{best_some, filter-same, one_more}
-use Rattle.clr_joint.specs.BySummary.{average_into, choice_so_far, costs, lead_value, summary_choice, summary_value, value_so_far}
+use Rattle.clr_joint.specs.BySummary.{choice_so_far, lead_value, summary_choice, summary_value, value_so_far}
 use Rattle.clr_joint.proofs.Costs.{average_apart}
 
 -- ---- a summary's value is that of each live prefix that has it

@@ -1,12 +1,12 @@
 -- The rows of a week of all stores.
-use Rattle.std.proofs.Common.{◌≡◌, ℕ, zero, suc, ◌+◌, ◌-◌, ◌*◌, ◌^◌, ◌<◌, ◌≤◌, ℤ, pos, neg_ℤ, ◌+ℤ◌, ◌≤ℤ◌, true, List, [], ◌∷◌, ◌++◌, length, map, get_or, slice_get, Some, refl, ap, ap₂, sym, ◌∙◌, subst, arith, le_trans, length-append, below_more, mul-le-mul, mul-le-mul_left}
+use Rattle.std.proofs.Common.{◌≡◌, ℕ, zero, suc, ◌+◌, ◌-◌, ◌*◌, ◌^◌, ◌<◌, ◌≤◌, ℤ, pos, neg_ℤ, ◌+ℤ◌, ◌≤ℤ◌, true, List, [], ◌∷◌, ◌++◌, length, get_or, slice_get, Some, ap, sym, ◌∙◌, subst, arith, le_trans, length-append, below_more, mul-le-mul, mul-le-mul_left}
 use Rattle.std.proofs.Math.ListN.{get_or-append}
 use Rattle.std.proofs.Math.Nat.{pow-le-pow_right, pow-zero}
 use Rattle.std.proofs.lemmas.List.{get_or-append-add}
 use Rattle.std.proofs.lemmas.Option.{slice_get-get_or}
 use Rattle.clr_num.specs.Direction.{IsDirection}
 use Rattle.clr_num.specs.Sums.{sum_of}
-use Rattle.clr_stock.specs.Stock.{Store, no_store}
+use Rattle.clr_stock.specs.Stock.{no_store}
 use Rattle.clr_rules.specs.declared.season_rules.Summary.{Summary}
 use Rattle.clr_rules.specs.LiveSummaries.{is_live_summary}
 use Rattle.clr_season.specs.Season.{Season, IsSeason, store_at}
@@ -14,7 +14,7 @@ use Rattle.clr_average.specs.Average.{IsWithin}
 use Rattle.clr_average.proofs.Ring.{linear}
 use Rattle.clr_model.specs.JointValue.{end_value, joint_value}
 use Rattle.clr_model.specs.JointWeek.{joint_base}
-use Rattle.clr_model.specs.Revenue.{full_stocks, of_store, sum_stores}
+use Rattle.clr_model.specs.Revenue.{full_stocks}
 use Rattle.clr_model.proofs.Sizes.{store_within}
 use Rattle.clr_model.proofs.Sums.{sum_of-le}
 use Rattle.clr_storedp.specs.BySummary.{summary_prefix}

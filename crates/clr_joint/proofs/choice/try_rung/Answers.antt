@@ -1,4 +1,4 @@
-use Rattle.std.proofs.Common.{◌≡◌, ℕ, ◌<◌, suc, pos, length, get_or, ap, sym, ◌∙◌, subst, arith, Some, to_z, of_z}
+use Rattle.std.proofs.Common.{◌≡◌, ◌<◌, suc, pos, length, get_or, ap, sym, ◌∙◌, subst, arith, Some, to_z, of_z}
 use Rattle.std.proofs.lemmas.Int.{to_z-of_z}
 use mir.Syntax.{w64}
 use Rattle.clr_num.specs.Sums.{first_best}

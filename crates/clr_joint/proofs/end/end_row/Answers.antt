@@ -1,11 +1,10 @@
-use Rattle.std.proofs.Common.{◌≡◌, ℕ, suc, ◌<◌, ◌≤◌, ◌+◌, ◌-◌, ◌*◌, ◌/◌, ◌%◌, ℤ, pos, ◌+ℤ◌, List, length, get_or, arith, refl, ap, ap₂, sym, ◌∙◌, subst, add-one}
+use Rattle.std.proofs.Common.{◌≡◌, ℕ, suc, ◌<◌, ◌≤◌, ◌+◌, ◌-◌, ◌*◌, ◌/◌, ◌%◌, ℤ, pos, ◌+ℤ◌, List, length, get_or, arith, refl, ap, sym, ◌∙◌, subst, add-one}
 use Rattle.clr_season.specs.Season.{store_at}
 use Rattle.clr_model.specs.Revenue.{cent}
-use Rattle.clr_joint.specs.Ends.{AreWorths}
 use Rattle.clr_joint.specs.Folds.{last_units}
 use Rattle.clr_joint.specs.Stocks.{lists_of}
-use Rattle.clr_joint.proofs.Ends.{worths_all, worths_more}
-use Rattle.clr_joint.proofs.Grid.{last_lists_more, last_lists_most, last_units_all}
+use Rattle.clr_joint.proofs.Ends.{worths_more}
+use Rattle.clr_joint.proofs.Grid.{last_lists_more, last_lists_most}
 use Rattle.clr_joint.proofs.Limits.{few_stores, lists_most, lists_some}
 use Rattle.clr_joint.proofs.end.end_row.Goals as goal
 

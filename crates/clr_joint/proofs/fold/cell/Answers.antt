@@ -1,4 +1,4 @@
-use Rattle.std.proofs.Common.{◌≡◌, ◌-◌, ◌*◌, ◌+◌, ◌<◌, min, pos, ◌+ℤ◌, ◌*ℤ◌, length, get_or, ap, ap₂, sym, ◌∙◌, subst, arith, add-one, SFits, to_z, of_z, rules}
+use Rattle.std.proofs.Common.{◌-◌, ◌*◌, pos, ◌+ℤ◌, ◌*ℤ◌, get_or, ap, ap₂, sym, ◌∙◌, subst, add-one, SFits, rules}
 use Rattle.std.proofs.lemmas.Int.{to_z-of_z}
 use mir.Syntax.{w128}
 use Rattle.clr_average.specs.Average.{IsWithin}

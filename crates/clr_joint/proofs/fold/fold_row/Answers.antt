@@ -1,4 +1,4 @@
-use Rattle.std.proofs.Common.{◌≡◌, ℕ, ◌<◌, ◌≤◌, ◌+◌, ℤ, pos, List, get_or, ◌-◌, ◌*◌, ◌^◌, length, arith, ap, ap₂, sym, ◌∙◌, subst, add-one, Fits}
+use Rattle.std.proofs.Common.{◌≡◌, ℕ, ◌<◌, ◌≤◌, ◌+◌, ℤ, pos, List, get_or, ◌-◌, ◌*◌, ◌^◌, length, arith, ap, ap₂, sym, ◌∙◌, subst, add-one}
 use Rattle.std.proofs.Math.Nat.{pow-suc}
 use Rattle.clr_season.specs.Season.{store_at}
 use Rattle.clr_joint.specs.Folds.{fold_item, last_units}

@@ -1,11 +1,11 @@
-use Rattle.std.proofs.Common.{rules, ◌≡◌, ℕ, suc, ◌<◌, ◌≤◌, ◌+◌, ◌-◌, ◌*◌, ◌/◌, ◌%◌, ◌^◌, ◌++◌, [], ◌∷◌, ℤ, pos, List, length, get_or, sum, arith, ap, ap₂, sym, ◌∙◌, subst, add-one, mul-le-mul, mul-le-mul_right, SFits, Fits, to_z, of_z}
+use Rattle.std.proofs.Common.{rules, ◌≡◌, ℕ, suc, ◌<◌, ◌≤◌, ◌+◌, ◌-◌, ◌*◌, ◌/◌, ◌%◌, ℤ, pos, List, length, get_or, arith, ap, ap₂, sym, ◌∙◌, subst, add-one, mul-le-mul, mul-le-mul_right, SFits, to_z, of_z}
 use Rattle.std.proofs.lemmas.Int.{to_z-of_z}
 use mir.Syntax.{w128}
 use Rattle.clr_rules.specs.Rules.{price}
 use Rattle.clr_season.specs.Season.{store_at, weights_of}
 use Rattle.clr_average.specs.Average.{IsWithin}
 use Rattle.clr_model.specs.Revenue.{cent}
-use Rattle.clr_joint.specs.Folds.{IsCell, cell_sum, fold_item, fold_reach}
+use Rattle.clr_joint.specs.Folds.{cell_sum, fold_item, fold_reach}
 use Rattle.clr_joint.proofs.Folds.{fold_is, is_cell, item_within, pushed, pushed_size}
 use Rattle.clr_joint.proofs.Limits.{power_most, reach_most}
 use Rattle.clr_joint.proofs.fold.fold_store.Goals as goal

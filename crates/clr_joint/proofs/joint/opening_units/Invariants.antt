@@ -1,4 +1,4 @@
-use Rattle.std.proofs.Common.{◌≡◌, take, length}
+use Rattle.std.proofs.Common.{◌≡◌, take}
 use Rattle.clr_model.specs.Revenue.{full_stocks}
 use Rattle.clr_joint.proofs.joint.opening_units.Given as goal
 

@@ -1,4 +1,4 @@
-use Rattle.std.proofs.Common.{◌≡◌, ◌<◌, ◌≤◌, ◌+◌, ◌*◌, drop, get_or, length, arith, Fits}
+use Rattle.std.proofs.Common.{◌≤◌, ◌+◌, ◌*◌, drop, get_or, arith}
 use Rattle.clr_joint.specs.Stocks.{lists_of, place_in}
 use Rattle.clr_joint.proofs.Limits.{lists_some}
 use Rattle.clr_joint.proofs.Places.{place_most, place_on}

@@ -1,10 +1,10 @@
-use Rattle.std.proofs.Common.{◌≡◌, ℕ, suc, ℤ, pos, List, length, ap, sym, ◌∙◌, subst, subst₂, arith, add-one, Result, Ok, Err, IfOk}
+use Rattle.std.proofs.Common.{◌≡◌, ℕ, pos, List, length, ap, ◌∙◌, subst₂, arith, Result, Ok, Err, IfOk}
 use Rattle.clr_rules.specs.declared.season_rules.Summary.{Summary}
 use Rattle.clr_rules.specs.LiveSummaries.{at_week}
 use Rattle.clr_model.specs.Revenue.{full_stocks}
-use Rattle.clr_storedp.specs.Rows.{AreRows, AreWithin, WeekRows}
+use Rattle.clr_storedp.specs.Rows.{AreRows, WeekRows}
 use Rattle.clr_storedp.specs.Weeks.{live_week}
-use Rattle.clr_joint.specs.BySummary.{average_into, by_place, summary_choice, summary_value}
+use Rattle.clr_joint.specs.BySummary.{by_place, summary_choice, summary_value}
 use Rattle.clr_joint.specs.Stocks.{lists_of}
 use Rattle.clr_joint.specs.Weeks.{IsWeek}
 use Rattle.clr_joint.proofs.Limits.{few_stores}

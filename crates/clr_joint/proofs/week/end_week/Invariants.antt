@@ -1,4 +1,4 @@
-use Rattle.std.proofs.Common.{pos, length}
+use Rattle.std.proofs.Common.{pos}
 use Rattle.clr_model.specs.JointValue.{end_value}
 use Rattle.clr_model.specs.Revenue.{full_stocks}
 use Rattle.clr_storedp.specs.Rows.{AreRows}

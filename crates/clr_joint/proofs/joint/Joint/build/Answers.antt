@@ -1,5 +1,4 @@
 use Rattle.std.proofs.Common.{◌≡◌, ℕ, ◌≤◌, List, ap, sym, ◌∙◌, subst}
-use Rattle.clr_model.specs.Revenue.{full_stocks}
 use Rattle.clr_joint.specs.Rows.{entries_of}
 use Rattle.clr_joint.specs.Stocks.{lists_of}
 use Rattle.clr_joint.proofs.Built.{close, enclosed, first_choice, kept_is, opening_are, tops_all}

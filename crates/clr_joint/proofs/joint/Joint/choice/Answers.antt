@@ -1,4 +1,4 @@
-use Rattle.std.proofs.Common.{rules, ◌≡◌, ℕ, ◌<◌, ◌≤◌, ◌+◌, ◌-◌, ◌*◌, ◌^◌, ℤ, pos, List, length, get_or, Option, unwrap_or, arith, ap, ap₂, sym, ◌∙◌, subst, SFits, to_z, of_z}
+use Rattle.std.proofs.Common.{◌≡◌, ℕ, ◌<◌, ◌≤◌, ◌+◌, ◌*◌, List, length, get_or, Option, unwrap_or, arith, ap, ap₂, sym, ◌∙◌, subst}
 use Rattle.clr_rules.specs.LiveSummaries.{at_week}
 use Rattle.clr_storedp.specs.Rows.{WeekRows, place_of, row_at, week_at}
 use Rattle.clr_storedp.proofs.TableLemmas.{place_found}
