@@ -13,3 +13,4 @@ pub mod WeekRows
 pub mod Places
 pub mod Tables
 pub mod Built
+pub mod ReadAt

@@ -5,3 +5,4 @@ pub mod Folds
 pub mod Ends
 pub mod Rows
 pub mod Weeks
+pub mod Laws

@@ -10,6 +10,8 @@ mod choice;
 mod end;
 mod fold;
 mod joint;
+mod laws;
 mod week;
 
 pub use joint::Joint;
+pub use laws::joint_reads;
