@@ -1,0 +1,16 @@
+pub mod DemandReads
+pub mod DemandRows
+pub mod DemandTotals
+pub mod DrawLemmas
+pub mod FieldLemmas
+pub mod FixedFiles
+pub mod Folders
+pub mod LineLemmas
+pub mod MadeLengths
+pub mod MadeRules
+pub mod MadeSeason
+pub mod MadeStores
+pub mod MadeWeights
+pub mod RangeLemmas
+pub mod StockReads
+pub mod TableLemmas
