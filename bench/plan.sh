@@ -1,26 +1,34 @@
 #!/usr/bin/env bash
-# How long a plan of the ordinary chain takes: bench/plan.sh [PROGRAM]
+# How long plans take: bench/plan.sh [PROGRAM]
 #
-# Runs `PROGRAM plan examples/ordinary` (24 stores, 12 weeks, 6 rungs) twenty times, and prints the status, the milliseconds of
-# the fastest run, and the greatest memory of a run.
+# Plans the ordinary chain of examples/ and made seasons at the limits of each part of a plan: the tables of all stores and
+# their descent (64 stores, 26 weeks and 8 rungs near 8,000,000 cells; 52 weeks and 12 rungs), the recursion over all stores
+# together (at the joint limits), and the search (past 100,000 tight prefixes). Prints for each the status, what the report
+# says, the seconds of the fastest of several runs, and the greatest memory of a run.
 set -euo pipefail
 root="$(cd "$(dirname "${BASH_SOURCE[0]}")/.." && pwd)"
 program="${1:-$root/crates/clr_top/out/clr_top}"
 [ -x "$program" ] || { echo "no program at $program: run ./clearance once, or give its path" >&2; exit 1; }
-python3 - "$program" "$root/examples/ordinary" <<'PYTHON'
+folder="$(mktemp -d)"
+trap 'rm -rf "$folder"' EXIT
+python3 "$root/bench/seasons.py" "$folder"
+for season in "$root/examples/ordinary" "$folder"/*; do
+  python3 - "$program" "$season" <<'PYTHON'
 import resource
 import subprocess
 import sys
 import time
 
 program, folder = sys.argv[1:]
-best = None
-for _ in range(20):
+best, runs = None, 20 if folder.endswith("ordinary") else 3
+for _ in range(runs):
     start = time.perf_counter()
-    run = subprocess.run([program, "plan", folder], stdout=subprocess.DEVNULL)
+    run = subprocess.run([program, "plan", folder], stdout=subprocess.PIPE, stderr=subprocess.PIPE, text=True)
     spent = time.perf_counter() - start
     best = spent if best is None else min(best, spent)
 memory = resource.getrusage(resource.RUSAGE_CHILDREN).ru_maxrss / 1024
-print(f"status {run.returncode}, best of twenty {1000 * best:.1f} ms")
-print(f"greatest memory {memory:.0f} MB")
+lines = [line for line in run.stdout.splitlines() if line.split()[0] in ("best", "bound", "gap", "exact")]
+print(f"{folder.rsplit('/', 1)[1]}: status {run.returncode}, {', '.join(lines) or run.stderr.strip()}")
+print(f"    best of {runs}: {best:.3f} s, {memory:.0f} MB")
 PYTHON
+done
