@@ -1,5 +1,5 @@
 -- The order of paths.
-use Rattle.std.proofs.Common.{◌≡◌, ◌⊎◌, inl, inr, ℕ, ◌<◌, ◌≤◌, refl, ap₂, sym, ◌∙◌, subst, arith, zero, suc, List, [], ◌∷◌, length, get_or}
+use Rattle.std.proofs.Common.{◌≡◌, inl, inr, ℕ, ◌<◌, ◌≤◌, refl, ap₂, sym, ◌∙◌, subst, arith, zero, suc, List, [], ◌∷◌, length, get_or}
 use Rattle.std.proofs.lemmas.Bool.{cases_order}
 use Rattle.clr_rules.specs.Rules.{rung_at}
 use Rattle.clr_rules.specs.FirstPath.{ComesBefore}

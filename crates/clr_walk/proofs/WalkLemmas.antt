@@ -161,3 +161,11 @@ ends_searched terms seeds nodes left more best low seed walked = record {
 
     counts : (b : Bool) (n k : ℕ) → b ≡ nat_lt n k → IsTrue (not b) ↔ (k ≤ n)
     counts b n k e = subst (λ c. IsTrue (not c) ↔ (k ≤ n)) (sym e) (forth n k, back n k)
+
+-- nothing lies behind a whole prefix
+pub entered_whole : (terms : Terms) (seed : ℤ) (prefix : List ℕ) (behind : List (List ℕ)) → IsTrue (terms.live prefix) → behind ≡ [] → entered terms seed prefix behind ≡ prefix ∷ []
+entered_whole terms seed prefix behind live none = ap (λ xs. entered terms seed prefix xs) none ∙ either (reaches terms seed prefix)
+  where
+    either : (reached : Bool) → (if terms.live prefix then prefix ∷ (if reached then [] else []) else []) ≡ prefix ∷ []
+    either true = ap (λ b. if b then prefix ∷ [] else []) live
+    either false = ap (λ b. if b then prefix ∷ [] else []) live

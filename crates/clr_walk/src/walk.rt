@@ -135,8 +135,8 @@ fn enter<P: Problem>(
     ensures taken { MatchOption result
         (Leaves (P.terms problem.now) seed (take done walk.old.path.items ++ rung ∷ []) (length walk.old.path.items - (done + 1)) walk.old walk.new)
         (λ next. IsOpened (P.terms problem.now) seed (take done walk.old.path.items ++ rung ∷ []) done walk.new.path.items
-            × P.stands problem.now next (take done walk.old.path.items ++ rung ∷ [])
-            × Takes (P.terms problem.now) ((take done walk.old.path.items ++ rung ∷ []) ∷ []) walk.old walk.new) }
+        × P.stands problem.now next (take done walk.old.path.items ++ rung ∷ [])
+        × Takes (P.terms problem.now) ((take done walk.old.path.items ++ rung ∷ []) ∷ []) walk.old walk.new) }
 {
     if walk.more {
         walk.path[done] = rung;

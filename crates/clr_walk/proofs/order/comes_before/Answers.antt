@@ -1,8 +1,6 @@
-use Rattle.std.proofs.Common.{◌≡◌, ◌⊎◌, inl, inr, ℕ, ◌<◌, ◌≤◌, false, true, nat_lt, List, get_or, length, sym, ◌∙◌, subst, arith}
-use Rattle.std.proofs.lemmas.Bool.{cases_order}
+use Rattle.std.proofs.Common.{◌≡◌, inl, inr, ℕ, ◌<◌, ◌≤◌, false, true, nat_lt, List, get_or, length, sym, arith}
 use Rattle.std.proofs.lemmas.Bool.Decides.{nat_tests}
 use Rattle.std.proofs.lemmas.List.{get_or_default}
-use Rattle.clr_rules.specs.FirstPath.{ComesBefore}
 use Rattle.clr_walk.proofs.Precedence.{lesser_at, same_everywhere}
 use Rattle.clr_walk.proofs.order.comes_before.Goals as goal
 
