@@ -1,8 +1,13 @@
 -- A store's values along a prefix, at the stocks that can be reached.
 use Rattle.std.specs.Prelude.{◌≡◌, ◌⊎◌, ℕ, suc, ◌+◌, ◌<◌, ◌≤◌, ℤ, pos, List, length, get_or, drop}
-use Rattle.clr_rules.specs.Rules.{rung_at}
+use Rattle.clr_rules.specs.Rules.{Rulebook, rung_at}
 use Rattle.clr_season.specs.Season.{Season, weight}
 use Rattle.clr_model.specs.PathValue.{path_value_to}
+
+-- a list of rungs of the ladder, no longer than the season
+pub record IsPrefix (rules : Rulebook) (prefix : List ℕ) : Type 0 where
+  pub weeks : length prefix ≤ rules.weeks
+  pub rungs : (k : ℕ) → k < length prefix → (1 ≤ get_or prefix k 1) × (get_or prefix k 1 ≤ length rules.prices)
 
 -- after so many weeks of a prefix: the value of its rest, where `finish` is what a stock is worth after it
 abbrev pub rest_value : (ℤ → ℕ → ℤ) → (ℕ → ℤ) → Season → ℕ → List ℕ → ℕ → ℕ → ℤ

@@ -6,4 +6,5 @@
 #![tactic(auto)]
 
 mod demands;
+mod rows;
 mod week;
