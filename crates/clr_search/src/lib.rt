@@ -7,4 +7,5 @@
 
 mod demands;
 mod rows;
+mod totals;
 mod week;
