@@ -6,6 +6,7 @@
 #![tactic(auto)]
 
 mod demands;
+mod paths;
 mod rows;
 mod totals;
 mod week;
