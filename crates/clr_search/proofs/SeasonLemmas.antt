@@ -1,13 +1,16 @@
 -- Live prefixes of a season, and the rows of its tables.
-use Rattle.std.proofs.Common.{◌≡◌, ℕ, zero, suc, ◌+◌, ◌≤◌, ◌<◌, ℤ, pos, List, [], ◌∷◌, ◌++◌, length, get_or, map, true, refl, sym, ap, ◌∙◌, subst, arith, append_assoc, append-nil}
+use Rattle.std.proofs.Common.{◌≡◌, ℕ, zero, suc, ◌+◌, ◌≤◌, ◌<◌, ℤ, pos, List, [], ◌∷◌, ◌++◌, length, get_or, map, true, false, Some, None, refl, sym, ap, ap₂, ◌∙◌, subst, arith, add-one, append-nil}
 use Rattle.std.proofs.Math.ListN.{get_or-append}
 use Rattle.std.specs.List.{AllByRecursion}
 use Rattle.clr_stock.specs.Stock.{IsStore}
 use Rattle.clr_num.specs.Rounding.{ceil}
 use Rattle.clr_rules.specs.declared.season_rules.Summary.{Summary}
-use Rattle.clr_rules.specs.LiveSummaries.{IsAmong}
-use Rattle.clr_rules.specs.Rules.{Rulebook, IsPath, IsRulebook, is_live, obeys, summary}
-use Rattle.clr_rules.proofs.LiveLaw.{live_pairs_lem}
+use Rattle.clr_rules.specs.LiveSummaries.{IsAmong, at_week, live_pairs, live_summaries}
+use Rattle.clr_rules.specs.Rules.{Rulebook, HasSummary, IsInRange, IsPath, IsRulebook, is_live, next_if_kept, next_summary, obeys, summary}
+use Rattle.clr_rules.proofs.LiveLaw.{live_pairs_lem, week_is}
+use Rattle.clr_rules.proofs.LiveLists.{in_range, leads-live, live-by, live-reached}
+use Rattle.clr_rules.proofs.Sweeps.{kept_some, not_kept_no_lead, not_live_no_lead, rung_leads}
+use Rattle.clr_rules.proofs.SummaryLemmas.{live-keeps, summary-more}
 use Rattle.clr_rules.proofs.LiveLemmas.{live_from, live_witness, live-length, live-whole, obeys-are_rungs, obeys-length, rungs_of}
 use Rattle.clr_season.specs.Season.{Season, IsSeason, store_at}
 use Rattle.clr_model.specs.StoreValue.{Multipliers, store_value_at}
@@ -20,12 +23,6 @@ use Rattle.clr_search.specs.Along.{IsPrefix}
 use Rattle.clr_search.specs.Settings.{Stands}
 
 -- ---- live prefixes
-
--- what a live list begins with is live
-pub live_closed : (rules : Rulebook) (prefix rest : List ℕ) → is_live rules (prefix ++ rest) ≡ true → is_live rules prefix ≡ true
-live_closed rules prefix rest live =
-    let (more, good) = live_witness rules (prefix ++ rest) live in
-    live_from rules prefix (rest ++ more) (ap (obeys rules) (sym (append_assoc prefix rest more)) ∙ good)
 
 pub live_ladder : (rules : Rulebook) (prefix : List ℕ) → is_live rules prefix ≡ true → AllByRecursion (λ rung. (1 ≤ rung) × (rung ≤ length rules.prices)) prefix
 live_ladder rules prefix live =
@@ -54,6 +51,30 @@ prefix_is rules prefix live =
         longer : (xs : List ℕ) → length xs ≤ length (xs ++ more)
         longer [] = omega arith
         longer (x ∷ xs) = let rest = longer xs in omega arith
+
+-- ---- one rung more
+
+module _ (rules : Rulebook) (book : IsRulebook rules) (prefix : List ℕ) (s : Summary) (stands : Stands rules s prefix) (early : length prefix < rules.weeks) (rung : ℕ) (pairs : List (ℕ × Summary)) (of : pairs ≡ live_pairs rules) where
+  has : HasSummary rules (length prefix) s prefix
+  has = record { weeks = refl; keeps = live-keeps rules prefix stands.live; same = stands.same }
+
+  week : at_week (length prefix + 1) pairs ≡ live_summaries rules (suc (length prefix))
+  week = ap₂ at_week (add-one (length prefix)) of ∙ week_is rules (suc (length prefix)) early
+
+  pub summary_in_range : IsInRange rules s
+  summary_in_range = in_range rules (length prefix) s book (omega arith) (live-reached rules (length prefix) s (live-by rules (length prefix) s (prefix, refl, stands.live, stands.same)))
+
+  pub longer_live : (t : Summary) → Some t ≡ next_if_kept rules (length prefix) s rung → IsAmong pairs (length prefix + 1) t → (is_live rules (prefix ++ rung ∷ []) ≡ true) × Stands rules t (prefix ++ rung ∷ [])
+  longer_live t kept there =
+      let live : is_live rules (prefix ++ rung ∷ []) ≡ true = sym (leads-live rules (length prefix) s prefix rung has) ∙ rung_leads rules (length prefix) s t rung (at_week (length prefix + 1) pairs) kept week there in
+      (live, record { live = live; same = summary-more rules prefix rung ∙ (ap (λ t. next_summary rules t rung) stands.same ∙ sym (kept_some rules (length prefix) s t rung kept).1) })
+
+  pub longer_dead : (t : Summary) → Some t ≡ next_if_kept rules (length prefix) s rung → (IsAmong pairs (length prefix + 1) t → ⊥) → is_live rules (prefix ++ rung ∷ []) ≡ false
+  longer_dead t kept absent =
+      sym (leads-live rules (length prefix) s prefix rung has) ∙ not_live_no_lead rules (length prefix) s t rung (at_week (length prefix + 1) pairs) book early kept week absent
+
+  pub longer_broken : None ≡ next_if_kept rules (length prefix) s rung → is_live rules (prefix ++ rung ∷ []) ≡ false
+  longer_broken none = sym (leads-live rules (length prefix) s prefix rung has) ∙ not_kept_no_lead rules (length prefix) s rung none
 
 -- ---- a store's row at the summary of a live prefix
 

@@ -2,3 +2,4 @@ pub mod Found
 pub mod Listed
 pub mod Along
 pub mod Settings
+pub mod ClosedLaw

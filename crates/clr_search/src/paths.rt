@@ -4,6 +4,7 @@ ghost use Rattle.clr_average.specs.Average.{IsWithin};
 ghost use Rattle.clr_model.specs.PrefixBound.{prefix_bound};
 ghost use Rattle.clr_mult.specs.Tables.{mult_at};
 ghost use Rattle.clr_rules.specs.Rules.{is_live, summary};
+ghost use Rattle.clr_search.specs.ClosedLaw.{live_closed};
 ghost use Rattle.clr_search.specs.Found.{season_terms};
 ghost use Rattle.clr_search.specs.Settings.{IsSetting, Stands};
 ghost use Rattle.clr_walk.specs.Prefixes.{Terms};
@@ -91,4 +92,41 @@ impl<'a> SeasonPaths<'a> {
         }
         total
     }
+}
+
+impl<'a> Problem for SeasonPaths<'a> {
+    type State = Summary;
+
+    type Work = Rows;
+
+    ghost terms = { λ p. season_terms (mult_at p.mult) p.season };
+
+    ghost stands = { λ p s prefix. Stands p.season.rules s prefix };
+
+    fn weeks(&self) -> u32 {
+        self.demands.season().weeks()
+    }
+
+    fn rungs(&self) -> u32 {
+        self.demands.season().rungs()
+    }
+
+    fn next(&self, prefix: &[u32], state: Summary, rung: u32) -> Option<Summary> {
+        let season = self.demands.season();
+        let done = prefix.len() as u32;
+        match season.rules().next(done, state, rung) {
+            Some(next) if self.live.has(done + 1, next) => Some(next),
+            _ => None,
+        }
+    }
+
+    fn reaches(&self, work: &mut Rows, prefix: &[u32], state: Summary, seed: i128) -> bool {
+        self.bound(prefix, state, work) >= seed
+    }
+
+    fn low(&self, work: &mut Rows, path: &[u32]) -> i128 {
+        path_total::<Down>(&self.demands, path, work)
+    }
+
+    ghost closed = { λ p. live_closed p.season.rules };
 }
