@@ -3,3 +3,4 @@ pub mod Listed
 pub mod Along
 pub mod Settings
 pub mod ClosedLaw
+pub mod Seeds

@@ -8,5 +8,6 @@
 mod demands;
 mod paths;
 mod rows;
+mod seeds;
 mod totals;
 mod week;

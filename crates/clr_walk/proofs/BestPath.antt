@@ -14,11 +14,11 @@ use Rattle.clr_walk.proofs.WalkLemmas.{take_all}
 
 -- ---- what stands in a list
 
-abbrev among_numbers : ℕ → List ℕ → Type 0
+abbrev pub among_numbers : ℕ → List ℕ → Type 0
 among_numbers z [] = ⊥
 among_numbers z (x ∷ xs) = (z ≡ x) ⊎ among_numbers z xs
 
-in_numbers : (from count z : ℕ) → from ≤ z → z < from + count → among_numbers z (numbers from count)
+pub in_numbers : (from count z : ℕ) → from ≤ z → z < from + count → among_numbers z (numbers from count)
 in_numbers from zero z p q = absurd (omega arith)
 in_numbers from (suc count) z p q = go (z == from) refl (in_numbers (suc from) count z)
   where
@@ -32,12 +32,12 @@ in_numbers from (suc count) z p q = go (z == from) refl (in_numbers (suc from) c
     go true e ih = inl (is_it e)
     go false e ih = inr (ih (later e) (omega arith))
 
-among_map : (z : ℕ) (q : List ℕ) (ps : List (List ℕ)) → Among q ps → Among (z ∷ q) (map (λ rest. z ∷ rest) ps)
+pub among_map : (z : ℕ) (q : List ℕ) (ps : List (List ℕ)) → Among q ps → Among (z ∷ q) (map (λ rest. z ∷ rest) ps)
 among_map z q [] h = absurd h
 among_map z q (p ∷ ps) (inl e) = inl (ap (λ t. z ∷ t) e)
 among_map z q (p ∷ ps) (inr h) = inr (among_map z q ps h)
 
-among_flat : (f : ℕ → List (List ℕ)) (z : ℕ) (q : List ℕ) (xs : List ℕ) → among_numbers z xs → Among q (f z) → Among q (flat_map f xs)
+pub among_flat : (f : ℕ → List (List ℕ)) (z : ℕ) (q : List ℕ) (xs : List ℕ) → among_numbers z xs → Among q (f z) → Among q (flat_map f xs)
 among_flat f z q [] h a = absurd h
 among_flat f z q (x ∷ xs) (inl e) a = among-left q (f x) (flat_map f xs) (subst (λ y. Among q (f y)) e a)
 among_flat f z q (x ∷ xs) (inr h) a = among-right q (f x) (flat_map f xs) (among_flat f z q xs h a)
@@ -57,7 +57,7 @@ among_prefixes rungs (suc n) z (y ∷ q) p range all =
     within : z ≤ rungs → z < 1 + rungs
     within h = omega arith
 
-among_filter : (p : List ℕ → Bool) (x : List ℕ) (xs : List (List ℕ)) → Among x xs → p x ≡ true → Among x (filter p xs)
+pub among_filter : (p : List ℕ → Bool) (x : List ℕ) (xs : List (List ℕ)) → Among x xs → p x ≡ true → Among x (filter p xs)
 among_filter p x [] h e = absurd h
 among_filter p x (y ∷ ys) (inl same) e = subst (λ b. Among x (if b then y ∷ filter p ys else filter p ys)) (sym (ap p (sym same) ∙ e)) (inl same)
 among_filter p x (y ∷ ys) (inr h) e = go (p y) (among_filter p x ys h e)

@@ -9,7 +9,7 @@ ghost use Rattle.clr_walk.specs.BestLaw.{BestOfAll};
 mod order;
 mod walk;
 
-pub use walk::{Problem, Searched, search};
+pub use walk::{Problem, Searched, is_better, search};
 
 /// Where all tight prefixes were taken, and no path has a value above the bound of a prefix that it begins with, the path found
 /// is the best of all paths.

@@ -65,8 +65,9 @@ pub(crate) struct Walk {
     low: i128,
 }
 
-/// Whether a path with this value is better than the best so far with its value.
-fn is_better(low: i128, value: i128, path: &[u32], best: &[u32]) -> bool
+/// Whether a path with this value is better than the best so far with its value: its value is greater, or as great and it comes
+/// before.
+pub fn is_better(low: i128, value: i128, path: &[u32], best: &[u32]) -> bool
     requires { length path.now ≡ length best.now }
     ensures better { result ≡ true → IsBetter low value path.now best.now }
     ensures worse { result ≡ false → IsNoBetter low value path.now best.now }
