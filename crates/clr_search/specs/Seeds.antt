@@ -1,5 +1,5 @@
 -- The best seed so far.
-use Rattle.std.specs.Prelude.{◌≡◌, ℕ, ◌-◌, IsTrue, List, ◌++◌, length, replicate}
+use Rattle.std.specs.Prelude.{◌≡◌, ℕ, ◌-◌, ◌≤◌, ◌<◌, IsTrue, List, ◌++◌, length, replicate}
 use Rattle.clr_rules.specs.Rules.{obeys}
 use Rattle.clr_season.specs.Season.{Season}
 use Rattle.clr_model.specs.PathValue.{path_low}
@@ -15,6 +15,10 @@ once weeks week rung = replicate week 1 ++ replicate (weeks - week) rung
 -- a path is no better than the seed
 abbrev pub IsBehind : Season → List ℕ → List ℕ → Type 0
 IsBehind season best path = IsNoBetter (path_low season path) (path_low season best) path best
+
+-- each obeying path that leaves the first rung once, after so many weeks and to a rung below this one, is no better
+abbrev pub AreBehind : Season → List ℕ → ℕ → ℕ → Type 0
+AreBehind season best week end = (rung : ℕ) → 2 ≤ rung → rung < end → IsTrue (obeys season.rules (once season.rules.weeks week rung)) → IsBehind season best (once season.rules.weeks week rung)
 
 -- it is a seed, with its low value
 pub record IsSeed (season : Season) (seed : Seed) : Type 0 where

@@ -1,8 +1,9 @@
 // The paths of a season, as a search goes over them.
-ghost use Rattle.std.specs.Prelude.{◌≡◌, ℕ, suc, ◌+◌, ◌≤◌, ◌<◌, List, [], ◌∷◌, ◌++◌, pos, length, get_or, MatchOption, IsTrue, false};
+ghost use Rattle.std.specs.Prelude.{◌≡◌, ℕ, suc, ◌+◌, ◌≤◌, ◌<◌, List, [], ◌∷◌, ◌++◌, pos, length, get_or, IfOk, MatchOption, IsTrue, false};
 ghost use Rattle.clr_average.specs.Average.{IsWithin};
 ghost use Rattle.clr_model.specs.PrefixBound.{prefix_bound};
 ghost use Rattle.clr_mult.specs.Tables.{mult_at};
+ghost use Rattle.clr_rules.specs.FirstPath.{IsFirstObeying, SomePathObeys};
 ghost use Rattle.clr_rules.specs.Rules.{is_live, summary};
 ghost use Rattle.clr_search.specs.ClosedLaw.{live_closed};
 ghost use Rattle.clr_search.specs.Found.{season_terms};
@@ -14,10 +15,11 @@ use crate::rows::{Rows, value_along};
 use crate::totals::path_total;
 use clr_mult::Mult;
 use clr_num::{Down, Up};
-use clr_rules::{Live, Summary};
+use clr_rules::{Live, Summary, first_path};
 use clr_season::Season;
 use clr_storedp::StoreTable;
 use clr_walk::Problem;
+use std::alloc::{AllocError, Global};
 use std::marker::Model;
 
 /// The paths of a season, with the stores' tables under multipliers, which bound the paths that begin with a prefix. It
@@ -75,6 +77,18 @@ impl<'a> SeasonPaths<'a> {
         ensures { result.now ≡ self.now.season }
     {
         &self.demands
+    }
+
+    /// The first obeying path, where some path obeys.
+    ///
+    /// # Errors
+    /// Where memory is wanting.
+    pub(crate) fn first(&self, alloc: Global) -> Result<Vec<u32>, AllocError>
+        requires { SomePathObeys self.now.season.rules }
+        ensures { IfOk result (λ path. IsFirstObeying self.now.season.rules path.items) }
+    {
+        let path = first_path(alloc, self.demands.season().rules(), self.live)?;
+        Ok(path)
     }
 
     /// The bound of a live prefix with this summary.
