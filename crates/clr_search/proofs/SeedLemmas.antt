@@ -81,12 +81,12 @@ pub first_among : (rules : Rulebook) (first : List ℕ) → IsFirstObeying rules
 first_among rules first is =
     among-left first (take 1 (obeying_paths rules)) (filter (λ p. nat_le (markdowns p) 1) (obeying_paths rules)) (subst (λ xs. Among first xs) (sym (take_first rules first is)) (inl refl))
 
-among_either : (path : List ℕ) (xs ys : List (List ℕ)) → Among path (xs ++ ys) → Among path xs ⊎ Among path ys
+pub among_either : (path : List ℕ) (xs ys : List (List ℕ)) → Among path (xs ++ ys) → Among path xs ⊎ Among path ys
 among_either path [] ys h = inr h
 among_either path (x ∷ xs) ys (inl e) = inl (inl e)
 among_either path (x ∷ xs) ys (inr h) = elim (among_either path xs ys h) [ inl a ↦ inl (inr a) | inr b ↦ inr b ]
 
-filter_passes : (test : List ℕ → Bool) (path : List ℕ) (xs : List (List ℕ)) → Among path (filter test xs) → (test path ≡ true) × Among path xs
+pub filter_passes : (test : List ℕ → Bool) (path : List ℕ) (xs : List (List ℕ)) → Among path (filter test xs) → (test path ≡ true) × Among path xs
 filter_passes test path [] h = absurd h
 filter_passes test path (x ∷ xs) h = go (test x) refl h (filter_passes test path xs)
   where
@@ -94,6 +94,19 @@ filter_passes test path (x ∷ xs) h = go (test x) refl h (filter_passes test pa
     go true e (inl is) ih = (ap test is ∙ e, inl is)
     go true e (inr later) ih = let r = ih later in (r.0, inr r.1)
     go false e later ih = let r = ih later in (r.0, inr r.1)
+
+-- a seed obeys
+pub seed_obeys : (rules : Rulebook) (path : List ℕ) → Among path (seeds rules) → obeys rules path ≡ true
+seed_obeys rules path among =
+    elim (among_either path (take 1 (obeying_paths rules)) (filter (λ p. nat_le (markdowns p) 1) (obeying_paths rules)) among) [
+      | inl here ↦ (filter_passes (obeys rules) path (all_lists (rungs rules) rules.weeks) (front (obeying_paths rules) here)).0
+      | inr few ↦ (filter_passes (obeys rules) path (all_lists (rungs rules) rules.weeks) (filter_passes (λ p. nat_le (markdowns p) 1) path (obeying_paths rules) few).1).0
+    ]
+  where
+    front : (xs : List (List ℕ)) → Among path (take 1 xs) → Among path xs
+    front [] h = absurd h
+    front (x ∷ xs) (inl e) = inl e
+    front (x ∷ xs) (inr h) = absurd h
 
 -- a seed is the first path, or obeys and has at most one markdown week
 pub seed_is : (rules : Rulebook) (first path : List ℕ) → IsFirstObeying rules first → Among path (seeds rules) → (path ≡ first) ⊎ ((obeys rules path ≡ true) × (markdowns path ≤ 1))

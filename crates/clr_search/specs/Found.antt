@@ -6,6 +6,8 @@ use Rattle.clr_num.specs.Sums.{first_best}
 use Rattle.clr_rules.specs.FirstPath.{ComesBefore}
 use Rattle.clr_rules.specs.Rules.{Rulebook, is_live, markdowns, obeys, rungs}
 use Rattle.clr_season.specs.Season.{Season}
+use Rattle.clr_average.specs.Average.{IsWithin}
+use Rattle.clr_model.specs.Laws.{IsInterval}
 use Rattle.clr_model.specs.PathValue.{path_low, path_high}
 use Rattle.clr_model.specs.PrefixBound.{prefix_bound}
 use Rattle.clr_model.specs.StoreValue.{Multipliers}
@@ -60,3 +62,12 @@ pub record IsFound (season : Season) (m : Multipliers) (nodes : ℕ) (path : Lis
 pub record IsBestOfAll (season : Season) (path : List ℕ) : Type 0 where
   pub greatest : (other : List ℕ) → IsTrue (obeys season.rules other) → path_low season other ≤ℤ path_low season path
   pub first : (other : List ℕ) → IsTrue (obeys season.rules other) → path_low season other ≡ path_low season path → (other ≡ path) ⊎ ComesBefore path other
+
+-- all that is said of an answer
+pub record IsAnswer (season : Season) (m : Multipliers) (nodes : ℕ) (path : List ℕ) (low high : ℤ) (best : Bool) : Type 0 where
+  pub found : IsFound season m nodes path low high best
+  pub obeying : IsTrue (obeys season.rules path)
+  pub best_is : IsTrue best → IsBestOfAll season path
+  pub interval : IsInterval season path low high
+  pub low_small : IsWithin 100000000000000000000 low
+  pub high_small : IsWithin 100000000000000000000 high

@@ -5,9 +5,12 @@
 //! a cent has 10^6.
 #![tactic(auto)]
 
+mod best_path;
 mod demands;
 mod paths;
 mod rows;
 mod seeds;
 mod totals;
 mod week;
+
+pub use best_path::{Found, search};

@@ -191,7 +191,7 @@ pub struct Searched {
 }
 
 /// Searches the tight prefixes: the lists of rungs, each of whose shorter ones has a bound of at least the value of `first`. It
-/// takes `nodes` of them at most. `first` is the best of the paths to begin with, and `state` that of the empty list.
+/// takes `nodes` of them at most. `first` is the best of any paths to begin with, and `state` that of the empty list.
 ///
 /// # Errors
 /// Where memory is wanting.
@@ -203,12 +203,11 @@ pub fn search<P: Problem>(
     first: Vec<u32>,
     nodes: u64,
 ) -> Result<Searched, AllocError>
-    ghost seeds: { List (List ℕ) }
     requires weeks { 1 ≤ (P.terms problem.now).weeks }
     requires state { P.stands problem.now state [] }
     requires path { IsPath (P.terms problem.now) first.items }
-    requires chosen { IsChosen (P.terms problem.now) seeds first.items }
-    ensures { IfOk result (λ found. IsSearched (P.terms problem.now) ((P.terms problem.now).low first.items) seeds nodes found.path.items found.low found.best) }
+    ensures { IfOk result (λ found. (seeds : List (List ℕ)) → IsChosen (P.terms problem.now) seeds first.items →
+        IsSearched (P.terms problem.now) ((P.terms problem.now).low first.items) seeds nodes found.path.items found.low found.best) }
 {
     let path = Vec::from_slice(alloc, &first)?;
     let seed = problem.low(work, &first);
