@@ -1,24 +1,22 @@
 -- What the walk finds is what the search is to find.
-use Rattle.std.proofs.Common.{◌≡◌, ◌⊎◌, inl, inr, ◌↔◌, ℕ, zero, suc, ◌+◌, ◌-◌, ◌*◌, ◌≤◌, ◌<◌, ◌==◌, ℤ, pos, ◌+ℤ◌, ◌*ℤ◌, ◌≤ℤ◌, Bool, true, false, IsTrue, List, [], ◌∷◌, ◌++◌, length, get_or, take, map, refl, sym, ap, ◌∙◌, subst, arith}
-use Rattle.std.specs.List.{AllByRecursion, filter, list_all}
+use Rattle.std.proofs.Common.{◌≡◌, inl, inr, ◌↔◌, ℕ, zero, suc, ◌+◌, ◌-◌, ◌*◌, ◌≤◌, ◌<◌, ◌==◌, ℤ, pos, ◌*ℤ◌, ◌≤ℤ◌, Bool, true, false, IsTrue, List, [], ◌∷◌, ◌++◌, length, get_or, take, refl, sym, subst, arith}
+use Rattle.std.specs.List.{filter, list_all}
 use Rattle.std.proofs.lemmas.Bool.{and_parts, cases_lt}
 use Rattle.std.proofs.lemmas.Bool.Decides.{nat_tests}
 use Rattle.std.proofs.lemmas.Int.{ints}
-use Rattle.clr_num.specs.Direction.{IsDirection}
 use Rattle.clr_num.specs.DirectionLaws.{floor_is_direction}
 use Rattle.clr_num.specs.Lists.{numbers}
 use Rattle.clr_num.specs.Rounding.{floor}
 use Rattle.clr_num.specs.Sums.{first_best, sum_of}
-use Rattle.clr_rules.specs.FirstPath.{ComesBefore, IsFirstObeying}
-use Rattle.clr_rules.specs.Rules.{Rulebook, IsPath, is_live, obeys}
+use Rattle.clr_rules.specs.Rules.{IsPath, is_live, obeys}
 use Rattle.clr_rules.proofs.LiveLemmas.{live-whole, obeys-length}
-use Rattle.clr_season.specs.Season.{Season, IsSeason, store_at}
+use Rattle.clr_season.specs.Season.{Season, IsSeason}
 use Rattle.clr_average.specs.Average.{IsWithin}
 use Rattle.clr_average.proofs.Within.{within_more, within_pos, within_sum}
 use Rattle.clr_model.specs.Laws.{IsInterval}
 use Rattle.clr_model.proofs.PathBounds.{path_enclosed_lem}
 use Rattle.clr_model.specs.PathValue.{path_low, path_high, path_value}
-use Rattle.clr_model.specs.Revenue.{cent, full_stocks, of_store, salvage_cents}
+use Rattle.clr_model.specs.Revenue.{cent, full_stocks, salvage_cents}
 use Rattle.clr_model.specs.StoreValue.{Multipliers, SumToZero}
 use Rattle.clr_model.proofs.Best.{first_best-among, first_best-greatest}
 use Rattle.clr_model.proofs.Ladders.{path_on_ladder}
@@ -26,11 +24,10 @@ use Rattle.clr_model.proofs.PrefixBound.{prefix_bounds_lem}
 use Rattle.clr_walk.specs.Prefixes as walk
 use Rattle.clr_walk.specs.Prefixes.{Among, IsChosen, Terms, prefixes}
 use Rattle.clr_walk.specs.Tight.{IsSearched, candidates, is_tight, is_whole, reaches, tight}
-use Rattle.clr_walk.specs.BestLaw.{Bounds, IsBestPath, OnLadder}
+use Rattle.clr_walk.specs.BestLaw.{Bounds, OnLadder}
 use Rattle.clr_walk.proofs.BestPath.{best_of_all_lem}
 use Rattle.clr_walk.proofs.Choosing.{All-among}
-use Rattle.clr_search.specs.ClosedLaw.{live_closed}
-use Rattle.clr_search.specs.Found.{IsAnswer, IsBestOfAll, IsFound, season_candidates, season_terms, seed, seeds, tight_prefixes}
+use Rattle.clr_search.specs.Found.{IsAnswer, IsBestOfAll, IsFound, season_terms, seed, seeds}
 use Rattle.clr_search.proofs.RestSizes.{value_within}
 use Rattle.clr_search.proofs.SeasonLemmas.{live_ladder, obeys_live, path_is}
 use Rattle.clr_search.proofs.SeedLemmas.{among_either, filter_passes, seed_obeys}

@@ -1,5 +1,5 @@
 -- A store's values along a prefix at the stocks that can be reached.
-use Rattle.std.proofs.Common.{◌≡◌, ◌⊎◌, inl, inr, ℕ, ◌+◌, ◌-◌, ◌≤◌, ◌<◌, min, ℤ, pos, ◌+ℤ◌, ◌*ℤ◌, List, length, get_or, drop, length-drop, refl, sym, ap, ◌∙◌, subst, arith, suc, zero}
+use Rattle.std.proofs.Common.{◌≡◌, ◌⊎◌, inl, inr, ℕ, ◌+◌, ◌-◌, ◌≤◌, ◌<◌, ℤ, pos, ◌+ℤ◌, ◌*ℤ◌, List, length, get_or, drop, length-drop, refl, sym, ap, ◌∙◌, subst, arith, suc}
 use Rattle.std.proofs.lemmas.Bool.{cases_lt}
 use lib.IntN.{zero-*ℤ}
 use Rattle.clr_num.specs.Direction.{IsDirection}
@@ -8,12 +8,12 @@ use Rattle.clr_season.specs.Season.{Season, IsSeason, demands, store_at, weight}
 use Rattle.clr_average.specs.Average.{IsWithin}
 use Rattle.clr_average.proofs.Sums.{sum_over-same}
 use Rattle.clr_average.proofs.Within.{within_more}
-use Rattle.clr_model.specs.PathValue.{weighed, path_value_to}
+use Rattle.clr_model.specs.PathValue.{weighed}
 use Rattle.clr_model.specs.Revenue.{earn, left}
 use Rattle.clr_model.proofs.Ladders.{rest_on_ladder}
 use Rattle.clr_search.specs.Along.{AreLows, IsPrefix, StaysAbove, rest_value}
 use Rattle.clr_search.proofs.RestSizes.{value_within}
-use Rattle.clr_search.proofs.RestValues.{rest_none, rest_step}
+use Rattle.clr_search.proofs.RestValues.{rest_step}
 
 -- where nothing is left below `low`, the values below it don't matter
 weighed_kept : (season : Season) (store done before rung low stock : ℕ) (f g : ℕ → ℤ) → StaysAbove season store (suc done) rung low stock → ((rest : ℕ) → low ≤ rest → rest ≤ stock → f rest ≡ g rest) →

@@ -1,5 +1,5 @@
 -- How large the values along a prefix can be, where those after it are at most so much in size.
-use Rattle.std.proofs.Common.{◌≡◌, ℕ, zero, suc, ◌+◌, ◌-◌, ◌*◌, ◌≤◌, ◌<◌, min, ℤ, pos, neg_ℤ, ◌+ℤ◌, ◌-ℤ◌, ◌*ℤ◌, ◌≤ℤ◌, Bool, true, false, if◌then◌else◌, ◌==◌, List, [], ◌∷◌, length, get_or, arith, sym, ap, ◌∙◌, mul_assoc, mul-add, mul-suc, mul-le-mul_left, mul-le-mul_right}
+use Rattle.std.proofs.Common.{◌≡◌, ℕ, zero, suc, ◌+◌, ◌*◌, ◌≤◌, min, ℤ, pos, neg_ℤ, ◌+ℤ◌, ◌-ℤ◌, ◌*ℤ◌, ◌≤ℤ◌, Bool, true, false, if◌then◌else◌, ◌==◌, List, [], ◌∷◌, length, arith, sym, ap, ◌∙◌, mul_assoc, mul-add, mul-suc, mul-le-mul_right}
 use Rattle.clr_stock.specs.Stock.{IsStore}
 use Rattle.clr_num.specs.Direction.{IsDirection}
 use Rattle.clr_num.specs.Sums.{sum_over}

@@ -1,5 +1,5 @@
 -- A store's values along a prefix, week by week.
-use Rattle.std.proofs.Common.{◌≡◌, ℕ, ◌+◌, ◌-◌, ◌≤◌, ◌<◌, ℤ, List, [], ◌∷◌, length, get_or, drop, drop-cons, refl, sym, ap, ap₂, ◌∙◌, subst, arith, suc, zero}
+use Rattle.std.proofs.Common.{◌≡◌, ℕ, ◌≤◌, ◌<◌, ℤ, List, [], ◌∷◌, length, get_or, drop-cons, sym, ap, ◌∙◌, arith, suc}
 use Rattle.std.proofs.Math.Seq.{drop-length}
 use Rattle.clr_rules.specs.Rules.{rung_at}
 use Rattle.clr_season.specs.Season.{Season}

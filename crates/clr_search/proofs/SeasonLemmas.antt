@@ -1,17 +1,17 @@
 -- Live prefixes of a season, and the rows of its tables.
-use Rattle.std.proofs.Common.{◌≡◌, ℕ, zero, suc, ◌+◌, ◌≤◌, ◌<◌, ℤ, pos, List, [], ◌∷◌, ◌++◌, length, get_or, map, true, false, Some, None, refl, sym, ap, ap₂, ◌∙◌, subst, arith, add-one, append-nil}
+use Rattle.std.proofs.Common.{◌≡◌, ℕ, suc, ◌+◌, ◌≤◌, ◌<◌, ℤ, pos, List, [], ◌∷◌, ◌++◌, length, get_or, map, true, false, Some, None, refl, sym, ap, ap₂, ◌∙◌, subst, arith, add-one, append-nil}
 use Rattle.std.proofs.Math.ListN.{get_or-append}
 use Rattle.std.specs.List.{AllByRecursion}
 use Rattle.clr_stock.specs.Stock.{IsStore}
 use Rattle.clr_num.specs.Rounding.{ceil}
 use Rattle.clr_rules.specs.declared.season_rules.Summary.{Summary}
 use Rattle.clr_rules.specs.LiveSummaries.{IsAmong, at_week, live_pairs, live_summaries}
-use Rattle.clr_rules.specs.Rules.{Rulebook, HasSummary, IsInRange, IsPath, IsRulebook, is_live, next_if_kept, next_summary, obeys, summary}
+use Rattle.clr_rules.specs.Rules.{Rulebook, HasSummary, IsInRange, IsPath, IsRulebook, is_live, next_if_kept, next_summary, obeys}
 use Rattle.clr_rules.proofs.LiveLaw.{live_pairs_lem, week_is}
 use Rattle.clr_rules.proofs.LiveLists.{in_range, leads-live, live-by, live-reached}
 use Rattle.clr_rules.proofs.Sweeps.{kept_some, not_kept_no_lead, not_live_no_lead, rung_leads}
 use Rattle.clr_rules.proofs.SummaryLemmas.{live-keeps, summary-more}
-use Rattle.clr_rules.proofs.LiveLemmas.{live_from, live_witness, live-length, live-whole, obeys-are_rungs, obeys-length, rungs_of}
+use Rattle.clr_rules.proofs.LiveLemmas.{live_from, live_witness, live-length, obeys-are_rungs, obeys-length, rungs_of}
 use Rattle.clr_season.specs.Season.{Season, IsSeason, store_at}
 use Rattle.clr_model.specs.StoreValue.{Multipliers, store_value_at}
 use Rattle.clr_model.proofs.Ladders.{path_on_ladder}

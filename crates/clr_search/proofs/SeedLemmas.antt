@@ -1,13 +1,12 @@
 -- The seeds: which paths they are, and the best of them.
-use Rattle.std.proofs.Common.{◌≡◌, ◌⊎◌, inl, inr, ℕ, zero, suc, ◌+◌, ◌-◌, ◌≤◌, ◌<◌, ◌==◌, nat_le, ℤ, ◌≤ℤ◌, ◌<ℤ◌, Bool, true, false, List, [], ◌∷◌, ◌++◌, length, get_or, take, drop, map, replicate, if◌then◌else◌, refl, sym, ap, ap₂, ◌∙◌, subst, arith, append_assoc, append-nil, length-append, add-one, le-leb}
+use Rattle.std.proofs.Common.{◌≡◌, ◌⊎◌, inl, inr, ℕ, zero, suc, ◌+◌, ◌≤◌, ◌<◌, nat_le, Bool, true, false, List, [], ◌∷◌, ◌++◌, length, get_or, take, drop, map, if◌then◌else◌, refl, sym, ap, ◌∙◌, subst, arith, add-one, le-leb}
 use Rattle.std.specs.List.{AllByRecursion, filter}
 use Rattle.clr_num.specs.Lists.{all_lists, numbers}
 use Rattle.std.proofs.lemmas.Bool.{both_ways, leb-true}
-use Rattle.std.proofs.lemmas.Int.{ints}
 use Rattle.std.proofs.lemmas.List.{take-append-drop}
 use Rattle.std.proofs.Math.Seq.{take-length, take-suc}
 use Rattle.clr_rules.specs.declared.season_rules.Summary.{Summary}
-use Rattle.clr_rules.specs.FirstPath.{ComesBefore, IsFirstObeying}
+use Rattle.clr_rules.specs.FirstPath.{IsFirstObeying}
 use Rattle.clr_rules.specs.Rules.{Rulebook, IsPath, is_live, markdowns, obeys, rungs}
 use Rattle.clr_rules.proofs.LiveLemmas.{live-whole, obeys-length, rungs_of}
 use Rattle.clr_search.specs.ClosedLaw.{live_closed}

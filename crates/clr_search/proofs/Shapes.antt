@@ -1,5 +1,5 @@
 -- Paths with at most one markdown week, and which path is no worse than another.
-use Rattle.std.proofs.Common.{◌≡◌, ◌⊎◌, inl, inr, ℕ, zero, suc, ◌+◌, ◌-◌, ◌≤◌, ◌<◌, ◌==◌, ℤ, ◌≤ℤ◌, ◌<ℤ◌, Bool, true, false, List, [], ◌∷◌, ◌++◌, length, replicate, if◌then◌else◌, refl, sym, ap, ap₂, ◌∙◌, subst, arith, length-append, IsTrue, get_or, nat_le, ◌&&◌, below_more}
+use Rattle.std.proofs.Common.{◌≡◌, ◌⊎◌, inl, inr, ℕ, zero, suc, ◌+◌, ◌-◌, ◌≤◌, ◌<◌, ◌==◌, ℤ, ◌≤ℤ◌, Bool, true, false, List, [], ◌∷◌, ◌++◌, length, replicate, if◌then◌else◌, refl, sym, ap, ap₂, ◌∙◌, subst, arith, length-append, IsTrue, get_or, nat_le, ◌&&◌, below_more}
 use Rattle.std.specs.List.{AllByRecursion, list_all}
 use Rattle.std.proofs.lemmas.Bool.{and_parts, cases_lt}
 use Rattle.std.proofs.lemmas.Bool.Decides.{nat_tests}
@@ -15,7 +15,7 @@ use Rattle.clr_model.proofs.Ladders.{path_on_ladder}
 use Rattle.clr_model.specs.Revenue.{markdowns_after}
 use Rattle.clr_model.proofs.Markdowns.{markdowns_counted_lem}
 use Rattle.clr_walk.specs.Prefixes.{Among, IsChosen}
-use Rattle.clr_walk.specs.Walks.{IsBetter, IsNoBetter}
+use Rattle.clr_walk.specs.Walks.{IsBetter}
 use Rattle.clr_walk.proofs.Precedence.{before_chain}
 use Rattle.clr_search.specs.Found.{season_terms, seeds}
 use Rattle.clr_search.specs.Seeds.{AreBehind, IsBehind, once}

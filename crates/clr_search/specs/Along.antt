@@ -1,5 +1,5 @@
 -- A store's values along a prefix, at the stocks that can be reached.
-use Rattle.std.specs.Prelude.{◌≡◌, ◌⊎◌, ℕ, suc, ◌+◌, ◌<◌, ◌≤◌, ℤ, pos, List, length, get_or, drop}
+use Rattle.std.specs.Prelude.{◌≡◌, ◌⊎◌, ℕ, suc, ◌+◌, ◌<◌, ◌≤◌, ℤ, List, length, get_or, drop}
 use Rattle.clr_rules.specs.Rules.{Rulebook, rung_at}
 use Rattle.clr_season.specs.Season.{Season, weight}
 use Rattle.clr_model.specs.PathValue.{path_value_to}

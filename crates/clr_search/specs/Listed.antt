@@ -1,6 +1,6 @@
 -- The weights of each store, week and rung up to the last that is not 0.
 use Rattle.std.specs.Prelude.{◌≡◌, ℕ, ◌+◌, ◌-◌, ◌*◌, ◌/◌, ◌%◌, ◌<◌, ◌≤◌, List, length, get_or}
-use Rattle.clr_season.specs.Season.{Season, IsPlace, weights_of}
+use Rattle.clr_season.specs.Season.{Season, weights_of}
 
 -- the weights past so many weigh nothing
 pub record IsListed (weights : List ℕ) (count : ℕ) : Type 0 where

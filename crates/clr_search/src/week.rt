@@ -105,5 +105,13 @@ pub(crate) fn week_before<R: Direction>(
     ensures { (stock : ℕ) → low ≤ stock → stock < width → StaysAbove demands.now store (suc done) rung low stock →
         get_or out.new stock (pos 0) ≡ R.quotient (weighed demands.now store done before rung stock (λ rest. get_or after.now rest (pos 0))) demands.now.base }
 {
-    average_week::<R>(demands, store, done, before, rung, &after[low..width], &mut out[low..width]);
+    average_week::<R>(
+        demands,
+        store,
+        done,
+        before,
+        rung,
+        &after[low..width],
+        &mut out[low..width],
+    );
 }

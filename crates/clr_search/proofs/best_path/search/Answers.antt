@@ -1,5 +1,5 @@
-use Rattle.std.proofs.Common.{◌≡◌, ap, sym, ◌∙◌, subst}
-use Rattle.clr_mult.specs.Tables.{Table, mult_at}
+use Rattle.std.proofs.Common.{◌≡◌, sym, ◌∙◌, subst}
+use Rattle.clr_mult.specs.Tables.{mult_at}
 use Rattle.clr_model.specs.StoreValue.{SumToZero}
 use Rattle.clr_season.specs.Season.{Season}
 use Rattle.clr_storedp.proofs.Totals.{sums_of}

@@ -1,13 +1,11 @@
-use Rattle.std.proofs.Common.{◌≡◌, ℕ, ℤ, List, Bool, ap, sym, ◌∙◌, subst, rules, SFits, to_z, of_z}
+use Rattle.std.proofs.Common.{◌≡◌, ℕ, List, ap, sym, ◌∙◌, subst, rules, SFits, to_z, of_z}
 use Rattle.std.proofs.lemmas.Int.{to_z-of_z}
 use mir.Syntax.{w128}
-use Rattle.clr_rules.specs.Rules.{Rulebook, IsPath}
+use Rattle.clr_rules.specs.Rules.{IsPath}
 use Rattle.clr_season.specs.Season.{Season, IsSeason}
-use Rattle.clr_average.specs.Average.{IsWithin}
 use Rattle.clr_mult.specs.Tables.{mult_at}
 use Rattle.clr_model.specs.PathValue.{path_high, path_low}
-use Rattle.clr_walk.specs.Tight.{IsSearched}
-use Rattle.clr_search.specs.Found.{IsAnswer, season_terms, seeds}
+use Rattle.clr_search.specs.Found.{IsAnswer, seeds}
 use Rattle.clr_search.proofs.FoundLemmas.{answer_is, candidate_obeys, seed_path}
 use Rattle.clr_search.proofs.SeasonLemmas.{path_is}
 use Rattle.clr_search.proofs.best_path.search_paths.Goals as goal

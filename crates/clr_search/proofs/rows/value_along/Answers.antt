@@ -1,10 +1,10 @@
-use Rattle.std.proofs.Common.{◌≡◌, ℕ, ◌+◌, ◌-◌, ◌≤◌, ◌<◌, ℤ, pos, length, get_or, take, ◌++◌, List, refl, ap, sym, ◌∙◌, subst, arith, rules, to_z, of_z, SFits}
+use Rattle.std.proofs.Common.{◌≡◌, ℕ, ◌+◌, ◌-◌, ◌≤◌, ◌<◌, ℤ, pos, length, get_or, take, ◌++◌, List, refl, ap, sym, ◌∙◌, subst, arith, rules, SFits}
 use Rattle.std.proofs.Math.ListN.{get_or-append}
 use Rattle.std.proofs.lemmas.List.{get_or-take, get_or_default}
 use Rattle.std.proofs.lemmas.Int.{to_z-of_z}
 use mir.Syntax.{w64}
 use Rattle.clr_average.specs.Average.{IsWithin}
-use Rattle.clr_season.specs.Season.{Season, IsSeason, store_at}
+use Rattle.clr_season.specs.Season.{Season, store_at}
 use Rattle.clr_model.specs.PathValue.{weighed}
 use Rattle.clr_search.specs.Along.{rest_value}
 use Rattle.clr_search.proofs.Reached.{after_within, rest_within, week_done}

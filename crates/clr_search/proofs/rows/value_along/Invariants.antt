@@ -1,5 +1,4 @@
 use Rattle.std.proofs.Common.{◌≡◌, ℕ, ◌-◌, ◌≤◌, pos, length, get_or}
-use Rattle.clr_season.specs.Season.{store_at}
 use Rattle.clr_search.specs.Along.{AreLows, rest_value}
 use Rattle.clr_search.proofs.rows.value_along.Given as goal
 

@@ -1,4 +1,4 @@
-use Rattle.std.proofs.Common.{◌≡◌, ◌≤◌, ◌<◌, ◌+◌, ◌-◌, ◌++◌, List, ℕ, length, replicate, ap, sym, ◌∙◌, subst, arith, rules, IsTrue, take, drop, SFits, to_z, of_z}
+use Rattle.std.proofs.Common.{◌≡◌, ◌≤◌, ◌-◌, ◌++◌, List, ℕ, length, replicate, ap, sym, ◌∙◌, subst, arith, rules, IsTrue, take, drop, SFits}
 use Rattle.std.proofs.Math.Seq.{take-append_seam}
 use Rattle.std.proofs.lemmas.Int.{to_z-of_z}
 use Rattle.std.proofs.lemmas.List.{length-replicate}
@@ -9,7 +9,7 @@ use Rattle.clr_rules.proofs.FirstPaths.{one_first_obeying_lem}
 use Rattle.clr_season.specs.Season.{Season}
 use Rattle.clr_mult.specs.Tables.{mult_at}
 use Rattle.clr_model.specs.PathValue.{path_low}
-use Rattle.clr_search.specs.Seeds.{IsBehind, IsSeed, once}
+use Rattle.clr_search.specs.Seeds.{IsBehind, once}
 use Rattle.clr_search.proofs.SeasonLemmas.{path_is}
 use Rattle.clr_search.proofs.SeedLemmas.{first_among}
 use Rattle.clr_search.proofs.Shapes.{AreSeedsBehind, best_chosen, once_few, once_path, seeds_more}

@@ -1,7 +1,5 @@
-use Rattle.std.proofs.Common.{◌≡◌, ◌<◌, ◌+◌, ℕ, length, IsTrue}
-use Rattle.clr_rules.specs.FirstPath.{IsFirstObeying}
-use Rattle.clr_rules.specs.Rules.{obeys}
-use Rattle.clr_search.specs.Seeds.{AreBehind, IsBehind, IsSeed, once}
+use Rattle.std.proofs.Common.{◌≡◌, length}
+use Rattle.clr_search.specs.Seeds.{IsSeed}
 use Rattle.clr_search.proofs.Shapes.{AreSeedsBehind}
 use Rattle.clr_search.proofs.seeds.best_seed.Given as goal
 

@@ -1,7 +1,6 @@
-use Rattle.std.proofs.Common.{◌≡◌, ℤ, List, ℕ, length, ap, sym, ◌∙◌, subst, SFits, to_z, of_z, rules}
+use Rattle.std.proofs.Common.{◌≡◌, List, ℕ, length, ap, sym, ◌∙◌, subst, SFits, to_z, of_z, rules}
 use Rattle.std.proofs.lemmas.Int.{to_z-of_z}
 use mir.Syntax.{w128}
-use Rattle.clr_rules.specs.Rules.{obeys}
 use Rattle.clr_season.specs.Season.{Season}
 use Rattle.clr_model.specs.PathValue.{path_low}
 use Rattle.clr_walk.specs.Prefixes.{Among}

@@ -1,4 +1,4 @@
-use Rattle.std.proofs.Common.{◌≡◌, ◌≤◌, ◌<◌, ◌+◌, List, ℕ, length, ap, sym, ◌∙◌, subst, arith}
+use Rattle.std.proofs.Common.{◌≡◌, ◌≤◌, List, ℕ, length, ap, sym, ◌∙◌, subst, arith}
 use Rattle.clr_rules.specs.Rules.{IsPath, markdowns}
 use Rattle.clr_season.specs.Season.{Season}
 use Rattle.clr_search.specs.Seeds.{once}

@@ -1,4 +1,3 @@
-use Rattle.std.proofs.Common.{◌≡◌, length}
 use Rattle.clr_search.specs.Seeds.{AreBehind, IsBehind, IsSeed}
 use Rattle.clr_search.proofs.seeds.offer_week.Given as goal
 

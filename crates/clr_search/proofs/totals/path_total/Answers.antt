@@ -1,9 +1,9 @@
-use Rattle.std.proofs.Common.{◌≡◌, ℕ, ◌+◌, ◌<◌, ◌≤◌, suc, ℤ, pos, ◌*ℤ◌, length, get_or, ap, sym, ◌∙◌, subst, arith, rules, add-one, SFits, to_z}
+use Rattle.std.proofs.Common.{◌≡◌, ℕ, ◌+◌, ◌<◌, ◌≤◌, suc, pos, ◌*ℤ◌, length, get_or, ap, sym, ◌∙◌, subst, arith, rules, add-one, SFits, to_z}
 use Rattle.std.proofs.lemmas.Int.{to_z-of_z}
 use mir.Syntax.{w64, w128}
 use Rattle.clr_season.specs.Season.{Season, store_at}
 use Rattle.clr_average.specs.Average.{IsWithin}
-use Rattle.clr_model.specs.PathValue.{path_value, path_value_to}
+use Rattle.clr_model.specs.PathValue.{path_value}
 use Rattle.clr_model.specs.Revenue.{cent, full_stocks, of_store, salvage_cents}
 use Rattle.clr_search.proofs.RestValues.{finish_same}
 use Rattle.clr_search.proofs.StoreTotals.{full_stock, salvage_within, total_more}

@@ -1,4 +1,4 @@
-use Rattle.std.proofs.Common.{◌≡◌, ℕ, ◌<◌, ◌≤◌, ◌+◌, ◌*◌, ◌^◌, ℤ, pos, ◌*ℤ◌, List, length, ap, ◌∙◌, arith, rules, mul_assoc, mul-le-mul, to_z}
+use Rattle.std.proofs.Common.{◌≡◌, ℕ, ◌<◌, ◌≤◌, ◌*◌, ◌^◌, pos, ◌*ℤ◌, length, ap, ◌∙◌, arith, rules, mul_assoc, mul-le-mul, to_z}
 use Rattle.std.proofs.lemmas.Int.{ints}
 use mir.Syntax.{w64}
 use Rattle.clr_season.specs.Season.{Season, store_at}

@@ -1,4 +1,4 @@
-use Rattle.std.proofs.Common.{◌≡◌, ◌<◌, ℕ, pos, length, get_or, arith}
+use Rattle.std.proofs.Common.{pos, get_or, arith}
 use Rattle.clr_search.proofs.Shifts.{average_small}
 use Rattle.clr_search.proofs.week.average.Goals as goal
 

@@ -1,4 +1,4 @@
-use Rattle.std.proofs.Common.{◌≡◌, ℕ, suc, ◌*◌, ◌<◌, ◌≤◌, pos, length, get_or, List, ap, sym, ◌∙◌, subst, arith, add-one}
+use Rattle.std.proofs.Common.{◌≡◌, suc, ◌*◌, ◌<◌, pos, length, get_or, ap, ◌∙◌, subst, arith, add-one}
 use Rattle.clr_season.specs.Season.{Season, IsSeason}
 use Rattle.clr_rules.specs.Rules.{price}
 use Rattle.clr_model.specs.Revenue.{cent, fee}

@@ -1,4 +1,4 @@
-use Rattle.std.proofs.Common.{◌≡◌, ◌<◌, ◌≤◌, ◌-◌, length, take, drop, ◌∙◌, arith}
+use Rattle.std.proofs.Common.{◌≡◌, ◌≤◌, ◌-◌, length, ◌∙◌, arith}
 use Rattle.clr_search.proofs.Shifts.{length-part, week_above}
 use Rattle.clr_search.proofs.week.week_before.Goals as goal
 

@@ -1,4 +1,4 @@
-use Rattle.std.proofs.Common.{◌+◌, ◌++◌, ◌∷◌, [], sym, subst, List, ℕ}
+use Rattle.std.proofs.Common.{◌+◌, sym, subst, List, ℕ}
 use Rattle.clr_search.specs.Listed.{AreCounted, IsListed}
 use Rattle.clr_search.proofs.Places.{counted_more}
 use Rattle.clr_search.proofs.demands.Demands.build.Goals as goal

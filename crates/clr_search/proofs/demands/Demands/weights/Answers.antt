@@ -1,7 +1,7 @@
-use Rattle.std.proofs.Common.{◌≡◌, ℕ, ◌<◌, ◌+◌, ◌-◌, ◌*◌, List, length, get_or, take, ap, ap₂, sym, ◌∙◌, subst, subst₂, arith, rules}
+use Rattle.std.proofs.Common.{◌≡◌, ℕ, ◌<◌, ◌*◌, List, length, get_or, take, ap, sym, ◌∙◌, subst, subst₂, rules}
 use Rattle.std.proofs.lemmas.List.{get_or_default}
 use Rattle.clr_model.specs.Weights.{AreWeights}
-use Rattle.clr_season.specs.Season.{Season, IsPlace, IsSeason, weights_of}
+use Rattle.clr_season.specs.Season.{Season, IsPlace, weights_of}
 use Rattle.clr_search.specs.Listed.{AreCounts, IsListed, place_of}
 use Rattle.clr_search.proofs.Places.{are_listed, listed_there, place_below, place_read, size_listed}
 use Rattle.clr_search.proofs.demands.Demands.weights.Goals as goal

@@ -1,19 +1,16 @@
-use Rattle.std.proofs.Common.{◌≡◌, ℕ, ◌+◌, ◌<◌, ◌≤◌, suc, ℤ, pos, List, [], length, get_or, ap, sym, ◌∙◌, subst, arith, rules, add-one, SFits, to_z}
+use Rattle.std.proofs.Common.{◌≡◌, ℕ, ◌+◌, ◌<◌, ◌≤◌, suc, ℤ, pos, List, length, get_or, ap, sym, ◌∙◌, subst, arith, rules, add-one, SFits, to_z}
 use Rattle.std.proofs.lemmas.Int.{to_z-of_z}
 use Rattle.std.proofs.lemmas.List.{get_or_default}
 use mir.Syntax.{w64, w128}
 use Rattle.clr_num.specs.Rounding.{ceil}
-use Rattle.clr_rules.specs.Rules.{Rulebook}
-use Rattle.clr_season.specs.Season.{Season, IsSeason, store_at}
+use Rattle.clr_season.specs.Season.{Season, store_at}
 use Rattle.clr_average.specs.Average.{IsWithin}
-use Rattle.clr_mult.specs.Tables.{Table, mult_at}
+use Rattle.clr_mult.specs.Tables.{mult_at}
 use Rattle.clr_model.specs.PathValue.{path_value_to}
 use Rattle.clr_model.specs.Revenue.{full_stocks, of_store}
 use Rattle.clr_model.specs.StoreValue.{Multipliers, store_value_at}
-use Rattle.clr_storedp.specs.Rows.{AreWithin}
 use Rattle.clr_storedp.specs.Tables.{AreTablesOf, Entry, IsTableOf}
 use Rattle.clr_storedp.proofs.Totals.{table_at}
-use Rattle.clr_search.specs.Along.{IsPrefix}
 use Rattle.clr_search.specs.Settings.{Setting, Stands}
 use Rattle.clr_search.proofs.RestValues.{finish_same}
 use Rattle.clr_search.proofs.SeasonLemmas.{has_row, prefix_is, row_short, row_size, row_value}

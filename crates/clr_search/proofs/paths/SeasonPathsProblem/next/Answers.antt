@@ -1,6 +1,4 @@
-use Rattle.std.proofs.Common.{◌≡◌, ℕ, ◌+◌, ◌<◌, ◌≤◌, true, false, IsTrue, List, [], ◌∷◌, ◌++◌, length, Option, Some, None, ap, sym, ◌∙◌, subst, arith}
-use Rattle.clr_rules.specs.declared.season_rules.Summary.{Summary}
-use Rattle.clr_rules.specs.LiveSummaries.{IsAmong}
+use Rattle.std.proofs.Common.{◌≡◌, ◌<◌, true, false, [], ◌∷◌, ◌++◌, length, Some, None, ap, sym, ◌∙◌, subst}
 use Rattle.clr_rules.specs.Rules.{Rulebook, IsInRange, is_live, next_if_kept}
 use Rattle.clr_season.specs.Season.{Season}
 use Rattle.clr_search.specs.Settings.{Setting, Stands}
