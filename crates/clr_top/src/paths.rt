@@ -18,36 +18,36 @@ const PATHS: [(&[u8], &[u8], &str); 16] = [
     (
         b"{\"weeks\":3,\"base\":1}",
         b"week,from,to,frozen\n",
-        "path 1 1 1\nprices 10.00 10.00 10.00\nrevenue 10.00000000 10.00000000\n",
+        "path 1 1 1\nprices 10.00 10.00 10.00\nrevenue 10.00000000 10.00000000\nbound 23.00000000 step 0\ngap 13.00000000\n",
     ),
     // One markdown, which must be the one of the second week.
     (
         b"{\"weeks\":3,\"base\":1,\"markdowns\":1,\"calendar\":true}",
         b"week,from,to,frozen\n2,2,12,0\n3,3,12,0\n",
-        "path 1 3 3\nprices 10.00 5.00 5.00\nrevenue 20.00000000 20.00000000\n",
+        "path 1 3 3\nprices 10.00 5.00 5.00\nrevenue 20.00000000 20.00000000\nbound 20.00000000 step 0\ngap 0.00000000\n",
     ),
     // Two markdowns two weeks apart.
     (
         b"{\"weeks\":3,\"base\":1,\"spacing\":2,\"calendar\":true}",
         b"week,from,to,frozen\n3,3,12,0\n2,2,12,0\n",
-        "path 1 3 3\nprices 10.00 5.00 5.00\nrevenue 20.00000000 20.00000000\n",
+        "path 1 3 3\nprices 10.00 5.00 5.00\nrevenue 20.00000000 20.00000000\nbound 21.00000000 step 0\ngap 1.00000000\n",
     ),
     (
         b"{\"weeks\":3,\"base\":1,\"spacing\":2,\"calendar\":true}",
         b"week,from,to,frozen\n1,2,12,0\n3,3,12,0\n",
-        "path 2 2 3\nprices 8.00 8.00 5.00\nrevenue 21.00000000 21.00000000\n",
+        "path 2 2 3\nprices 8.00 8.00 5.00\nrevenue 21.00000000 21.00000000\nbound 21.00000000 step 0\ngap 0.00000000\n",
     ),
     // A spacing that ends past the season.
     (
         b"{\"weeks\":3,\"base\":1,\"spacing\":12,\"calendar\":true}",
         b"week,from,to,frozen\n3,2,12,0\n",
-        "path 1 1 2\nprices 10.00 10.00 8.00\nrevenue 10.00000000 10.00000000\n",
+        "path 1 1 2\nprices 10.00 10.00 8.00\nrevenue 10.00000000 10.00000000\nbound 20.00000000 step 0\ngap 10.00000000\n",
     ),
     // A window that ends past the last rung, and one that begins there.
     (
         b"{\"weeks\":3,\"base\":1,\"calendar\":true}",
         b"week,from,to,frozen\n2,3,12,0\n",
-        "path 1 3 3\nprices 10.00 5.00 5.00\nrevenue 20.00000000 20.00000000\n",
+        "path 1 3 3\nprices 10.00 5.00 5.00\nrevenue 20.00000000 20.00000000\nbound 20.00000000 step 0\ngap 0.00000000\n",
     ),
     (
         b"{\"weeks\":3,\"base\":1,\"calendar\":true}",
@@ -58,7 +58,7 @@ const PATHS: [(&[u8], &[u8], &str); 16] = [
     (
         b"{\"weeks\":3,\"base\":1,\"calendar\":true}",
         b"week,from,to,frozen\n3,2,2,1\n",
-        "path 1 2 2\nprices 10.00 8.00 8.00\nrevenue 18.00000000 18.00000000\n",
+        "path 1 2 2\nprices 10.00 8.00 8.00\nrevenue 18.00000000 18.00000000\nbound 18.00000000 step 0\ngap 0.00000000\n",
     ),
     (
         b"{\"weeks\":3,\"base\":1,\"calendar\":true}",
@@ -69,7 +69,7 @@ const PATHS: [(&[u8], &[u8], &str); 16] = [
     (
         b"{\"weeks\":3,\"base\":1,\"markdowns\":0,\"calendar\":true}",
         b"week,from,to,frozen\n2,1,12,0\n",
-        "path 1 1 1\nprices 10.00 10.00 10.00\nrevenue 10.00000000 10.00000000\n",
+        "path 1 1 1\nprices 10.00 10.00 10.00\nrevenue 10.00000000 10.00000000\nbound 10.00000000 step 0\ngap 0.00000000\n",
     ),
     (
         b"{\"weeks\":3,\"base\":1,\"markdowns\":0,\"calendar\":true}",
@@ -80,7 +80,7 @@ const PATHS: [(&[u8], &[u8], &str); 16] = [
     (
         b"{\"weeks\":3,\"base\":1,\"first_cut\":20,\"calendar\":true}",
         b"week,from,to,frozen\n2,2,12,0\n",
-        "path 1 2 2\nprices 10.00 8.00 8.00\nrevenue 18.00000000 18.00000000\n",
+        "path 1 2 2\nprices 10.00 8.00 8.00\nrevenue 18.00000000 18.00000000\nbound 23.00000000 step 0\ngap 5.00000000\n",
     ),
     (
         b"{\"weeks\":3,\"base\":1,\"first_cut\":19,\"calendar\":true}",
@@ -90,12 +90,12 @@ const PATHS: [(&[u8], &[u8], &str); 16] = [
     (
         b"{\"weeks\":3,\"base\":1,\"first_cut\":20,\"calendar\":true}",
         b"week,from,to,frozen\n3,3,12,0\n",
-        "path 1 2 3\nprices 10.00 8.00 5.00\nrevenue 23.00000000 23.00000000\n",
+        "path 1 2 3\nprices 10.00 8.00 5.00\nrevenue 23.00000000 23.00000000\nbound 23.00000000 step 0\ngap 0.00000000\n",
     ),
     (
         b"{\"weeks\":3,\"base\":1,\"first_cut\":10}",
         b"",
-        "path 1 1 1\nprices 10.00 10.00 10.00\nrevenue 10.00000000 10.00000000\n",
+        "path 1 1 1\nprices 10.00 10.00 10.00\nrevenue 10.00000000 10.00000000\nbound 10.00000000 step 0\ngap 0.00000000\n",
     ),
     // A window that shuts what the week before opened.
     (
@@ -140,7 +140,7 @@ fn calendars_are_read(rt: HostRuntime) -> Result<(), Fail> {
     let first = planned(alloc, TWO)?;
     assert!(rt;
         first.reports(
-            b"season 1 stores 2 weeks 2 rungs base 1\npath 2 2\nprices 6.00 6.00\nrevenue 6.00000000 6.00000000\n"
+            b"season 1 stores 2 weeks 2 rungs base 1\npath 2 2\nprices 6.00 6.00\nrevenue 6.00000000 6.00000000\nbound 6.00000000 step 0\ngap 0.00000000\n"
         )
     );
     let shut = Files {
@@ -159,7 +159,7 @@ fn calendars_are_read(rt: HostRuntime) -> Result<(), Fail> {
     };
     assert!(rt;
         planned(alloc, costly)?.reports(
-            b"season 1 stores 1 weeks 2 rungs base 1\npath 2\nprices 6.00\nrevenue -3.00000000 -3.00000000\n"
+            b"season 1 stores 1 weeks 2 rungs base 1\npath 2\nprices 6.00\nrevenue -3.00000000 -3.00000000\nbound -3.00000000 step 0\ngap 0.00000000\n"
         )
     );
     let order = Files {
@@ -202,9 +202,9 @@ fn chains_fit_their_cells(rt: HostRuntime) -> Result<(), Fail> {
     let alloc = rt.alloc();
     // 5 * 5 * 1 * 10 cells for each of a store's stocks.
     let chains = [
-        (16, 1999, "revenue 319.84000000 319.84000000\n"),
-        (16, 2000, "revenue 319.85000000 319.85000000\n"),
-        (32, 1999, "revenue 639.68000000 639.68000000\n"),
+        (16, 1999, "319.84000000"),
+        (16, 2000, "319.85000000"),
+        (32, 1999, "639.68000000"),
         (32, 2000, ""),
     ];
     for (stores, first, revenue) in chains {
@@ -224,8 +224,11 @@ fn chains_fit_their_cells(rt: HostRuntime) -> Result<(), Fail> {
                 "{stores}"
             );
         } else {
+            let lines = format!(in alloc;
+                "path 1 1 1 1\nprices 5.00 5.00 5.00 5.00\nrevenue {revenue} {revenue}\nbound {revenue} step 0\ngap 0.00000000\n"
+            )?;
             assert!(rt;
-                answer.out.bytes().ends_with(revenue.as_bytes()),
+                answer.out.bytes().ends_with(lines.as_bytes()),
                 "{stores} {first}"
             );
         }
@@ -281,7 +284,7 @@ fn the_ordinary_chain_is_planned(rt: HostRuntime) -> Result<(), Fail> {
     let answer = planned(alloc, files)?;
     assert!(rt;
         answer.reports(
-            b"season 24 stores 12 weeks 6 rungs base 20\npath 1 1 1 1 1 1 1 1 1 1 1 1\nprices 50.00 50.00 50.00 50.00 50.00 50.00 50.00 50.00 50.00 50.00 50.00 50.00\nrevenue 15600.00000000 15600.00000000\n"
+            b"season 24 stores 12 weeks 6 rungs base 20\npath 1 1 1 1 1 1 1 1 1 1 1 1\nprices 50.00 50.00 50.00 50.00 50.00 50.00 50.00 50.00 50.00 50.00 50.00 50.00\nrevenue 15600.00000000 15600.00000000\nbound 19920.00000000 step 0\ngap 4320.00000000\n"
         )
     );
     Ok(())

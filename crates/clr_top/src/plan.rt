@@ -3,12 +3,14 @@ ghost use Rattle.std.specs.Prelude.{◌≡◌, ◌⊎◌, ◌<◌, IfOk, IsErrOf
 ghost use Rattle.clr_average.specs.Average.{IsWithin};
 ghost use Rattle.clr_model.specs.PathValue.{path_total};
 ghost use Rattle.clr_report.specs.declared.note.Cause.{Cause};
-ghost use Rattle.clr_rules.specs.FirstPath.{IsFirstObeying, NoPathObeys};
+ghost use Rattle.clr_report.specs.PlanText.{IsPlanOf};
+ghost use Rattle.clr_rules.specs.FirstPath.{IsFirstObeying, NoPathObeys, SomePathObeys};
 ghost use Rattle.clr_rules.specs.LiveSummaries.{live_pairs};
 ghost use Rattle.clr_rules.specs.Rules.{IsPath};
 ghost use Rattle.clr_season.specs.Season.{IsSeason};
 ghost use Rattle.clr_top.specs.declared.ending.Ending.{Ending};
-ghost use Rattle.clr_top.specs.Runs.{OfPlan};
+ghost use Rattle.clr_top.specs.Plans.{IsPlan, IsSound, OfPlan};
+ghost use Rattle.clr_words.specs.Asked.{IsAsk, ask_of};
 
 use crate::ending::{Ending, by};
 use clr_model::Path;
@@ -17,6 +19,8 @@ use clr_path::PathTable;
 use clr_report::{Cause, PlanFacts, plan_text};
 use clr_rules::{Live, first_path};
 use clr_season::Season;
+use clr_subgrad::descend;
+use clr_words::Asked;
 use std::alloc::{AllocError, Global};
 
 // The first path that obeys, where some path does.
@@ -41,32 +45,69 @@ fn total<R: Direction>(alloc: Global, season: &Season, path: &Path) -> Result<i1
     Ok(table.total())
 }
 
-fn plan_facts(path: Path, low: i128, high: i128) -> PlanFacts
+// What the report tells.
+fn facts_of(path: Path, low: i128, high: i128, bound: i128, at_step: u32) -> PlanFacts
     ensures path { result.path ≡ path }
     ensures low { result.low ≡ low }
     ensures high { result.high ≡ high }
+    ensures bound { result.bound ≡ bound }
+    ensures step { result.at_step ≡ at_step }
 {
-    PlanFacts { path, low, high }
+    PlanFacts {
+        path,
+        low,
+        high,
+        bound,
+        at_step,
+    }
 }
 
-// The report of the first path that obeys, where some path does.
-fn first_plan(alloc: Global, season: &Season, live: &Live) -> Result<Vec<u8>, AllocError>
+// The first path that obeys, where some path does, and the bound of the descent that is asked.
+fn plan_facts(
+    alloc: Global,
+    season: &Season,
+    live: &Live,
+    asked: &Asked,
+) -> Result<PlanFacts, AllocError>
     requires facts { IsSeason season.now }
     requires live { live.now ≡ live_pairs season.now.rules }
     requires some { 0 < length live.now }
-    ensures { IfOk result (λ text. OfPlan season.now (λ told. text.items ≡ told)) }
+    requires any { SomePathObeys season.now.rules }
+    requires asked { IsAsk (ask_of asked.now) }
+    ensures plan { IfOk result (λ facts. IsPlan season.now (ask_of asked.now) facts) }
+    ensures sound { IfOk result (λ facts. IsSound season.now facts) }
+    ensures told { IfOk result (λ facts. IsPlanOf season.now facts) }
 {
     let path = first_of(alloc, season, live)?;
     let low = total::<Down>(alloc, season, &path)?;
     let high = total::<Up>(alloc, season, &path)?;
-    let facts = plan_facts(path, low, high);
+    let descent = descend(alloc, season, live, asked.step, asked.steps)?;
+    Ok(facts_of(path, low, high, descent.bound, descent.at_step))
+}
+
+// The report of the plan that is asked, where some path obeys.
+fn plan_report(
+    alloc: Global,
+    season: &Season,
+    live: &Live,
+    asked: &Asked,
+) -> Result<Vec<u8>, AllocError>
+    requires facts { IsSeason season.now }
+    requires live { live.now ≡ live_pairs season.now.rules }
+    requires some { 0 < length live.now }
+    requires any { SomePathObeys season.now.rules }
+    requires asked { IsAsk (ask_of asked.now) }
+    ensures { IfOk result (λ text. OfPlan season.now (ask_of asked.now) (λ told. text.items ≡ told)) }
+{
+    let facts = plan_facts(alloc, season, live, asked)?;
     let text = plan_text(alloc, season, &facts)?;
     Ok(text)
 }
 
-/// The report of a season's plan, or that no path of it obeys.
-pub(crate) fn plan_season(alloc: Global, season: &Season) -> Result<Vec<u8>, Ending>
-    ensures text { IfOk result (λ text. OfPlan season.now (λ told. text.items ≡ told)) }
+/// The report of the plan of a season that is asked, or that no path of it obeys.
+pub(crate) fn plan_season(alloc: Global, season: &Season, asked: &Asked) -> Result<Vec<u8>, Ending>
+    requires { IsAsk (ask_of asked.now) }
+    ensures text { IfOk result (λ text. OfPlan season.now (ask_of asked.now) (λ told. text.items ≡ told)) }
     ensures ends { (ending : Ending) → IsErrOf result ending → (ending ≡ Ending.By Cause.Memory) ⊎ ((ending ≡ Ending.By Cause.NoPath) × NoPathObeys season.now.rules) }
 {
     let Ok(live) = Live::build(alloc, season.rules()) else {
@@ -75,7 +116,7 @@ pub(crate) fn plan_season(alloc: Global, season: &Season) -> Result<Vec<u8>, End
     if !live.any() {
         return Err(by(Cause::NoPath));
     }
-    match first_plan(alloc, season, &live) {
+    match plan_report(alloc, season, &live, asked) {
         Ok(text) => Ok(text),
         Err(_) => Err(by(Cause::Memory)),
     }
