@@ -165,7 +165,7 @@ fn cells_are_counted(rt: HostRuntime) -> Result<(), Fail> {
             demand: &demand,
             ..SMALLEST
         };
-        let words = ["plan", "f", "--steps", "1", "--nodes", "0"];
+        let words = ["plan", "f", "--steps", "0", "--nodes", "0"];
         let answer = asked_of(alloc, &words, files)?;
         assert!(rt; answer.notes(Status::Limit, "limit: cells 16004304") != fits);
         assert!(rt;

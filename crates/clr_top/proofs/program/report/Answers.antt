@@ -1,4 +1,4 @@
-use Rattle.std.proofs.Common.{◌≡◌, map, string_bytes, sym}
+use Rattle.std.proofs.Common.{◌≡◌, map, string_bytes}
 use Rattle.std.specs.Prelude.{IfSome, Ok}
 use Rattle.clr_season.specs.Reads.{season_in}
 use Rattle.clr_words.specs.Asked.{ask_of}
