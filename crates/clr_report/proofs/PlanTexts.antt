@@ -1,5 +1,5 @@
 -- The plan report tells its numbers.
-use Rattle.std.proofs.Common.{◌≡◌, ℕ, ◌<◌, ◌≤◌, ◌^◌, zero, suc, ℤ, ◌-ℤ◌, List, [], ◌∷◌, ◌++◌, map, All, length, get_or, unsigned_abs, codes, decimal, refl, sym, ◌∙◌, arith, append_assoc}
+use Rattle.std.proofs.Common.{◌≡◌, Bool, true, false, if◌then◌else◌, Option, None, Some, IfSome, ap, ℕ, ◌<◌, ◌≤◌, ◌^◌, zero, suc, ℤ, ◌-ℤ◌, List, [], ◌∷◌, ◌++◌, map, All, length, get_or, unsigned_abs, codes, decimal, refl, sym, ◌∙◌, arith, append_assoc}
 use Rattle.std.specs.List.{flat_map}
 use Rattle.std.proofs.lemmas.Int.{ints}
 use Rattle.std.proofs.lemmas.List.{append-nil, get_or_default}
@@ -14,7 +14,7 @@ use Rattle.clr_model.proofs.Ladders.{path_on_ladder}
 use Rattle.clr_report.specs.declared.plan.PlanFacts.{PlanFacts}
 use Rattle.clr_report.specs.declared.plan.PlanSizes.{PlanSizes}
 use Rattle.clr_report.specs.Lines.{line}
-use Rattle.clr_report.specs.PlanText.{bound_line, gap_line, path_line, plan_text, prices_line, revenue_line, season_line, sizes_of, IsPlanOf, PlanTextDetermines}
+use Rattle.clr_report.specs.PlanText.{best_line, bound_line, exact_line, gap_line, path_line, plan_text, prices_line, revenue_line, season_line, sizes_of, IsExactOf, IsPlanOf, PlanTextDetermines}
 use Rattle.clr_report.proofs.Gaps.{gap_within}
 use Rattle.clr_report.proofs.Cuts.{AreLines, AreWords, HasWords, lines_determine}
 
@@ -96,11 +96,25 @@ prices_words prices = codes "prices" ∷ map cents_text prices
 abbrev revenue_words : ℤ → ℤ → List (List ℕ)
 revenue_words low high = codes "revenue" ∷ money_text low ∷ money_text high ∷ []
 
+abbrev best_word : Bool → List ℕ
+best_word best = if best then codes "yes" else codes "open"
+
+abbrev best_words : Bool → List (List ℕ)
+best_words best = codes "best" ∷ best_word best ∷ []
+
 abbrev bound_words : ℤ → ℕ → List (List ℕ)
 bound_words bound step = codes "bound" ∷ money_text bound ∷ codes "step" ∷ decimal step ∷ []
 
 abbrev gap_words : ℤ → List (List ℕ)
 gap_words gap = codes "gap" ∷ money_text gap ∷ []
+
+abbrev exact_words : ℤ → ℤ → ℕ → List (List ℕ)
+exact_words low top rung = codes "exact" ∷ money_text low ∷ money_text top ∷ codes "first" ∷ decimal rung ∷ []
+
+-- the words of the line on all stores together, where there is one
+abbrev exact_lines : Option (ℤ × ℤ × ℕ) → List (List (List ℕ))
+exact_lines None = []
+exact_lines (Some (low, top, rung)) = exact_words low top rung ∷ []
 
 abbrev plan_words : Season → PlanFacts → List (List (List ℕ))
 plan_words season facts =
@@ -108,17 +122,23 @@ plan_words season facts =
     ∷ path_words facts.path
     ∷ prices_words (map (price season.rules) facts.path)
     ∷ revenue_words facts.low facts.high
+    ∷ best_words facts.best
     ∷ bound_words facts.bound facts.at_step
     ∷ gap_words (facts.bound -ℤ facts.low)
-    ∷ []
+    ∷ exact_lines facts.exact
 
-in_a_row : (a b c d e f : List ℕ) → a ++ b ++ c ++ d ++ e ++ f ≡ a ++ (b ++ (c ++ (d ++ (e ++ (f ++ [])))))
-in_a_row a b c d e f = simp (append_assoc, append-nil)
+in_a_row : (a b c d e f g h : List ℕ) → a ++ b ++ c ++ d ++ e ++ f ++ g ++ h ≡ a ++ (b ++ (c ++ (d ++ (e ++ (f ++ (g ++ h))))))
+in_a_row a b c d e f g h = simp append_assoc
+
+exact_by_lines : (exact : Option (ℤ × ℤ × ℕ)) → exact_line exact ≡ flat_map line (exact_lines exact)
+exact_by_lines None = refl
+exact_by_lines (Some (low, top, rung)) = sym (append-nil (line (exact_words low top rung)))
 
 by_lines : (season : Season) (facts : PlanFacts) → plan_text season facts ≡ flat_map line (plan_words season facts)
 unfolding plan_text
 by_lines season facts =
-    in_a_row (season_line (sizes_of season)) (path_line facts.path) (prices_line (map (price season.rules) facts.path)) (revenue_line facts.low facts.high) (bound_line facts.bound facts.at_step) (gap_line (facts.bound -ℤ facts.low))
+    ap (λ t. season_line (sizes_of season) ++ path_line facts.path ++ prices_line (map (price season.rules) facts.path) ++ revenue_line facts.low facts.high ++ best_line facts.best ++ bound_line facts.bound facts.at_step ++ gap_line (facts.bound -ℤ facts.low) ++ t) (exact_by_lines facts.exact)
+    ∙ in_a_row (season_line (sizes_of season)) (path_line facts.path) (prices_line (map (price season.rules) facts.path)) (revenue_line facts.low facts.high) (best_line facts.best) (bound_line facts.bound facts.at_step) (gap_line (facts.bound -ℤ facts.low)) (flat_map line (exact_lines facts.exact))
 
 season_has_words : (season : Season) → IsSeason season → HasWords (season_words (sizes_of season))
 season_has_words season is =
@@ -127,6 +147,18 @@ season_has_words season is =
     let ladder = is.rules.ladder.few in
     let base = is.most_base in
     (omega arith, (decimal_word (length season.stores) (omega (arith, stores)), (omega arith, (decimal_word season.rules.weeks (omega (arith, weeks)), (omega arith, (decimal_word (length season.rules.prices) (omega (arith, ladder)), (omega arith, (omega arith, (decimal_word season.base (omega (arith, base)), tt)))))))))
+
+above_best : (best : Bool) → Above 32 (best_word best)
+above_best true = omega arith
+above_best false = omega arith
+
+rung_fits : (season : Season) (exact : ℤ × ℤ × ℕ) → IsSeason season → IsExactOf season exact → exact.2 < 2 ^ 32
+rung_fits season exact is h = let few = is.rules.ladder.few in let last = h.last in omega (arith, few, last)
+
+exact_are_lines : (season : Season) (exact : Option (ℤ × ℤ × ℕ)) → IsSeason season → IfSome exact (IsExactOf season) → AreLines (exact_lines exact)
+exact_are_lines season None is h = tt
+exact_are_lines season (Some (low, top, rung)) is h =
+    ((omega arith, (money_word low (amount_fits low h.low), (money_word top (amount_fits top h.top), (omega arith, (decimal_word rung (rung_fits season (low, top, rung) is h), tt))))), tt)
 
 are_lines : (season : Season) (facts : PlanFacts) → IsSeason season → IsPlanOf season facts → facts.at_step < 2 ^ 32 → AreLines (plan_words season facts)
 are_lines season facts is plan step =
@@ -137,19 +169,38 @@ are_lines season facts is plan step =
     let bound : Above 32 (money_text facts.bound) = money_word facts.bound (amount_fits facts.bound plan.bound) in
     let at_step : Above 32 (decimal facts.at_step) = decimal_word facts.at_step step in
     let gap : Above 32 (money_text (facts.bound -ℤ facts.low)) = money_word (facts.bound -ℤ facts.low) (gap_abs facts.bound facts.low plan.bound plan.low) in
-    (season_has_words season is, (path, (prices, ((omega arith, (low, (high, tt))), ((omega arith, (bound, (omega arith, (at_step, tt)))), ((omega arith, (gap, tt)), tt))))))
+    (season_has_words season is, (path, (prices, ((omega arith, (low, (high, tt))), ((omega arith, (above_best facts.best, tt)), ((omega arith, (bound, (omega arith, (at_step, tt)))), ((omega arith, (gap, tt)), exact_are_lines season facts.exact is plan.exact)))))))
 
 -- ---- for one season
 
-make : List ℕ → ℤ → ℤ → ℤ → ℕ → PlanFacts
-make path low high bound at_step = record { path = path; low = low; high = high; bound = bound; at_step = at_step }
+make : List ℕ → ℤ → ℤ → Bool → ℤ → ℕ → Option (ℤ × ℤ × ℕ) → PlanFacts
+make path low high best bound at_step exact = record { path = path; low = low; high = high; best = best; bound = bound; at_step = at_step; exact = exact }
 
-made : (a : PlanFacts) → a ≡ make a.path a.low a.high a.bound a.at_step
+made : (a : PlanFacts) → a ≡ make a.path a.low a.high a.best a.bound a.at_step a.exact
 unfolding make
 made a = refl
 
-same_facts : (a b : PlanFacts) → a.path ≡ b.path → a.low ≡ b.low → a.high ≡ b.high → a.bound ≡ b.bound → a.at_step ≡ b.at_step → a ≡ b
-same_facts a b path low high bound step = let one = made a in let two = made b in cc
+same_facts : (a b : PlanFacts) → a.path ≡ b.path → a.low ≡ b.low → a.high ≡ b.high → a.best ≡ b.best → a.bound ≡ b.bound → a.at_step ≡ b.at_step → a.exact ≡ b.exact → a ≡ b
+same_facts a b path low high best bound step exact = let one = made a in let two = made b in cc
+
+same_best : (a b : Bool) → best_word a ≡ best_word b → a ≡ b
+same_best true true e = refl
+same_best true false e = cc
+same_best false true e = cc
+same_best false false e = refl
+
+same_exact : (season : Season) (a b : Option (ℤ × ℤ × ℕ)) → IsSeason season → IfSome a (IsExactOf season) → IfSome b (IsExactOf season) → exact_lines a ≡ exact_lines b → a ≡ b
+same_exact season None None is p q e = refl
+same_exact season None (Some (low, top, rung)) is p q e = cc
+same_exact season (Some (low, top, rung)) None is p q e = cc
+same_exact season (Some (low, top, rung)) (Some (other_low, other_top, other_rung)) is p q e =
+    let lows : money_text low ≡ money_text other_low = cc in
+    let tops : money_text top ≡ money_text other_top = cc in
+    let rungs : decimal rung ≡ decimal other_rung = cc in
+    let same_low : low ≡ other_low = money_determines low other_low (amount_fits low p.low) (amount_fits other_low q.low) lows in
+    let same_top : top ≡ other_top = money_determines top other_top (amount_fits top p.top) (amount_fits other_top q.top) tops in
+    let same_rung : rung ≡ other_rung = same_decimal rung other_rung (rung_fits season (low, top, rung) is p) (rung_fits season (other_low, other_top, other_rung) is q) rungs in
+    cc
 
 pub plan_determines : PlanTextDetermines
 plan_determines season facts others is one two step other_step same =
@@ -160,9 +211,13 @@ plan_determines season facts others is one two step other_step same =
     let high : money_text facts.high ≡ money_text others.high = cc in
     let bound : money_text facts.bound ≡ money_text others.bound = cc in
     let at_step : decimal facts.at_step ≡ decimal others.at_step = cc in
+    let best : best_word facts.best ≡ best_word others.best = cc in
+    let exact : exact_lines facts.exact ≡ exact_lines others.exact = cc in
     same_facts facts others
     (same_items decimal (2 ^ 32) same_decimal facts.path others.path (rungs_fit season.rules facts.path is.rules.ladder one.path) (rungs_fit season.rules others.path is.rules.ladder two.path) path)
     (money_determines facts.low others.low (amount_fits facts.low one.low) (amount_fits others.low two.low) low)
     (money_determines facts.high others.high (amount_fits facts.high one.high) (amount_fits others.high two.high) high)
+    (same_best facts.best others.best best)
     (money_determines facts.bound others.bound (amount_fits facts.bound one.bound) (amount_fits others.bound two.bound) bound)
     (same_decimal facts.at_step others.at_step step other_step at_step)
+    (same_exact season facts.exact others.exact is one.exact two.exact exact)

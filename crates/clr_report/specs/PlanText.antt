@@ -1,9 +1,11 @@
--- The plan report: the sizes, the path with its prices and its revenue, the bound over all policies and how far below it the path stays.
-use Rattle.std.specs.Prelude.{◌≡◌, length, ℕ, ◌^◌, ◌<◌, List, [], ◌∷◌, ◌++◌, map, ℤ, ◌-ℤ◌, codes, decimal}
+-- The plan report: the sizes, the path with its prices and its revenue, whether it is the best, the bound over all policies and how far
+-- below it the path stays, and what the best policy earns where all stores were solved together.
+use Rattle.std.specs.Prelude.{◌≡◌, length, ℕ, ◌^◌, ◌<◌, ◌≤◌, ◌↔◌, Bool, if◌then◌else◌, IfSome, IsSome, IsTrue, List, [], ◌∷◌, ◌++◌, map, Option, None, Some, ℤ, ◌-ℤ◌, codes, decimal}
 use Rattle.clr_num.specs.Money.{cents_text, money_text}
 use Rattle.clr_average.specs.Average.{IsWithin}
 use Rattle.clr_rules.specs.Rules.{IsPath, price}
 use Rattle.clr_season.specs.Season.{Season, IsSeason}
+use Rattle.clr_model.specs.Fits.{fits}
 use Rattle.clr_report.specs.declared.plan.PlanFacts.{PlanFacts}
 use Rattle.clr_report.specs.declared.plan.PlanSizes.{PlanSizes}
 use Rattle.clr_report.specs.Lines.{line}
@@ -26,6 +28,10 @@ prices_line prices = line (codes "prices" ∷ map cents_text prices)
 abbrev pub revenue_line : ℤ → ℤ → List ℕ
 revenue_line low high = line (codes "revenue" ∷ money_text low ∷ money_text high ∷ [])
 
+-- whether the search took all tight prefixes, so that no path has a greater low value
+abbrev pub best_line : Bool → List ℕ
+best_line best = line (codes "best" ∷ (if best then codes "yes" else codes "open") ∷ [])
+
 -- the bound over all policies, in units, and the step of the descent that gave it
 abbrev pub bound_line : ℤ → ℕ → List ℕ
 bound_line bound step = line (codes "bound" ∷ money_text bound ∷ codes "step" ∷ decimal step ∷ [])
@@ -33,6 +39,12 @@ bound_line bound step = line (codes "bound" ∷ money_text bound ∷ codes "step
 -- how far the path's low value stays below the bound, in units
 abbrev pub gap_line : ℤ → List ℕ
 gap_line gap = line (codes "gap" ∷ money_text gap ∷ [])
+
+-- What all stores together can earn at most, rounded down and up, in units, and the rung that the table policy begins with. There is
+-- no such line where they weren't solved together.
+abbrev pub exact_line : Option (ℤ × ℤ × ℕ) → List ℕ
+exact_line None = []
+exact_line (Some (low, top, rung)) = line (codes "exact" ∷ money_text low ∷ money_text top ∷ codes "first" ∷ decimal rung ∷ [])
 
 -- ---- the report
 
@@ -47,15 +59,27 @@ plan_text season facts =
     ++ path_line facts.path
     ++ prices_line (map (price season.rules) facts.path)
     ++ revenue_line facts.low facts.high
+    ++ best_line facts.best
     ++ bound_line facts.bound facts.at_step
     ++ gap_line (facts.bound -ℤ facts.low)
+    ++ exact_line facts.exact
 
--- a path of the season, and money of at most 10^20 units in size
+-- money of at most 10^20 units in size, and a rung of the season
+pub record IsExactOf (season : Season) (exact : ℤ × ℤ × ℕ) : Type 0 where
+  pub low : IsWithin 100000000000000000000 exact.0
+  pub top : IsWithin 100000000000000000000 exact.1
+  pub first : 1 ≤ exact.2
+  pub last : exact.2 ≤ length season.rules.prices
+
+-- A path of the season, and money of at most 10^20 units in size. All stores were solved together exactly where the season is small
+-- enough.
 pub record IsPlanOf (season : Season) (facts : PlanFacts) : Type 0 where
   pub path : IsPath season.rules facts.path
   pub low : IsWithin 100000000000000000000 facts.low
   pub high : IsWithin 100000000000000000000 facts.high
   pub bound : IsWithin 100000000000000000000 facts.bound
+  pub exact : IfSome facts.exact (IsExactOf season)
+  pub fit : IsTrue (fits season) ↔ IsSome facts.exact
 
 -- For one season the report determines the path and each number.
 abbrev pub PlanTextDetermines : Type 0

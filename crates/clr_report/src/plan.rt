@@ -1,10 +1,10 @@
 //! The plan report.
-ghost use Rattle.clr_report.specs.PlanText.{bound_line, gap_line, path_line, plan_text, prices_line, revenue_line, season_line, sizes_of, IsPlanOf, PlanTextDetermines};
+ghost use Rattle.clr_report.specs.PlanText.{best_line, bound_line, exact_line, gap_line, path_line, plan_text, prices_line, revenue_line, season_line, sizes_of, IsPlanOf, PlanTextDetermines};
 ghost use Rattle.clr_rules.specs.Rules.{IsPath, price};
 ghost use Rattle.clr_average.specs.Average.{IsWithin};
 ghost use Rattle.clr_num.specs.Money.{cents_text, money_text};
 ghost use Rattle.std.specs.List.{flat_map};
-ghost use Rattle.std.specs.Prelude.{◌≡◌, ◌∷◌, ◌++◌, ◌-ℤ◌, decimal, map, IfOk, OnOk};
+ghost use Rattle.std.specs.Prelude.{◌≡◌, ◌∷◌, ◌++◌, ◌-ℤ◌, decimal, map, IfOk, OnOk, Some};
 
 use clr_model::Path;
 use clr_num::{print_cents, print_money};
@@ -34,14 +34,20 @@ pub struct PlanFacts {
     pub low: i128,
     /// The path's value rounded up.
     pub high: i128,
+    /// Whether no path that obeys the rules has a greater low value, as far as the search has shown it.
+    pub best: bool,
     /// What no policy that obeys the rules earns more than.
     pub bound: i128,
     /// The step of the descent that gave the bound, from 0.
     pub at_step: u32,
+    /// Where all stores were solved together: what they earn at most, rounded down and rounded up, and the rung of the first
+    /// week, from 1.
+    pub exact: Option<(i128, i128, u32)>,
 }
 
-/// The plan report: the season's sizes, the path, its prices and its revenue, the bound over all policies with the step
-/// that gave it, and the gap from the path's low value up to the bound.
+/// The plan report: the season's sizes, the path, its prices and its revenue, whether it is the best, the bound over all
+/// policies with the step that gave it, the gap from the path's low value up to the bound, and the exact values of all stores
+/// together, which `facts` has exactly where the season is small enough.
 ///
 /// Each line ends with one line feed. The only error is want of memory.
 #[tactic(auto, unfolding(crate::specs::PlanText::plan_text))]
@@ -52,8 +58,10 @@ pub fn plan_text(alloc: Global, season: &Season, facts: &PlanFacts) -> Result<Ve
     let mut text = Vec::new(alloc);
     print_head(alloc, season, &facts.path, &mut text)?;
     print_revenue(facts.low, facts.high, &mut text)?;
+    print_best(facts.best, &mut text)?;
     print_bound(facts.bound, facts.at_step, &mut text)?;
     print_gap(facts.bound, facts.low, &mut text)?;
+    print_exact(facts.exact, &mut text)?;
     Ok(text)
 }
 
@@ -165,6 +173,39 @@ fn print_revenue(low: i128, high: i128, out: &mut Vec<u8>) -> Result<(), AllocEr
 {
     print_amount(b"revenue ", low, out)?;
     print_amount(b" ", high, out)?;
+    out.extend_from_slice(b"\n")?;
+    Ok(())
+}
+
+/// Appends the line on whether the path is the best.
+fn print_best(best: bool, out: &mut Vec<u8>) -> Result<(), AllocError>
+    ensures { OnOk result (out.new.items ≡ out.old.items ++ best_line best) }
+{
+    if best {
+        out.extend_from_slice(b"best yes\n")
+    } else {
+        out.extend_from_slice(b"best open\n")
+    }
+}
+
+/// Appends the line on all stores together, where they were solved so: two values in units of 10^-8 of the currency, and a
+/// rung.
+fn print_exact(exact: Option<(i128, i128, u32)>, out: &mut Vec<u8>) -> Result<(), AllocError>
+    ensures { OnOk result (out.new.items ≡ out.old.items ++ exact_line exact) }
+{
+    match exact {
+        Some((low, top, rung)) => print_values(low, top, rung, out),
+        None => Ok(()),
+    }
+}
+
+/// Appends the line on two values of all stores together, in units of 10^-8 of the currency, and a rung.
+fn print_values(low: i128, top: i128, rung: u32, out: &mut Vec<u8>) -> Result<(), AllocError>
+    ensures { OnOk result (out.new.items ≡ out.old.items ++ exact_line (Some (low, top, rung))) }
+{
+    print_amount(b"exact ", low, out)?;
+    print_amount(b" ", top, out)?;
+    print_size(b" first ", rung, out)?;
     out.extend_from_slice(b"\n")?;
     Ok(())
 }
