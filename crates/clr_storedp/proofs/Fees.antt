@@ -12,11 +12,11 @@ use Rattle.clr_model.specs.Revenue.{cent, earn, fee, left, week_cents}
 use Rattle.clr_model.proofs.Rows.{turn}
 use Rattle.clr_model.proofs.Weeks.{store_mass}
 
-no_fee : (season : Season) (store rung : ℕ) → fee season store rung rung ≡ 0
+pub no_fee : (season : Season) (store rung : ℕ) → fee season store rung rung ≡ 0
 no_fee season store rung = ap (λ b. cond b 0 (store_at season store).relabel) (eq-eqb rung rung refl)
 
 -- the earnings less the fee
-earn_apart : (season : Season) (store before rung stock demand : ℕ) → earn season store before rung stock demand ≡ earn season store rung rung stock demand +ℤ neg_ℤ (pos (cent * fee season store before rung))
+pub earn_apart : (season : Season) (store before rung stock demand : ℕ) → earn season store before rung stock demand ≡ earn season store rung rung stock demand +ℤ neg_ℤ (pos (cent * fee season store before rung))
 unfolding week_cents
 earn_apart season store before rung stock demand =
     let sold : ℕ = price season.rules rung * min stock demand in

@@ -34,7 +34,7 @@ filter_last test (y ∷ ys) x = by_test (test y) (test x) (filter test ys) (filt
     by_test false true zs now h = h
     by_test false false zs now h = h
 
-leads_more : (rules : Rulebook) (done : ℕ) (s : Summary) (n : ℕ) → leads rules done s (suc n) ≡ cond (leads_at rules done s (suc n)) (leads rules done s n ++ suc n ∷ []) (leads rules done s n)
+pub leads_more : (rules : Rulebook) (done : ℕ) (s : Summary) (n : ℕ) → leads rules done s (suc n) ≡ cond (leads_at rules done s (suc n)) (leads rules done s n ++ suc n ∷ []) (leads rules done s n)
 leads_more rules done s n =
     let one : 1 + n ≡ suc n = omega arith in
     ap (filter (leads_at rules done s)) (numbers_last 1 n ∙ ap (λ k. numbers 1 n ++ k ∷ []) one) ∙ filter_last (leads_at rules done s) (numbers 1 n) (suc n)

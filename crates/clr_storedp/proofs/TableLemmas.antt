@@ -34,7 +34,7 @@ get_or-numbers f from zero i d lt = absurd (omega arith)
 get_or-numbers f from (suc count) zero d lt = let e : from + 0 ≡ from = omega arith in ap f (sym e)
 get_or-numbers f from (suc count) (suc i) d lt = let e : suc from + i ≡ from + suc i = omega arith in get_or-numbers f (suc from) count i d (omega arith) ∙ ap f e
 
-row_is : {X : Type 0} (d : X) (width : ℕ) (list : List Summary) (f : Summary → ℕ → X) (items : List X) (place : ℕ) (s : Summary) → AreRows d width list (length list) f items → slice_get list place ≡ Some s → row_at width items place ≡ map (f s) (numbers 0 width)
+pub row_is : {X : Type 0} (d : X) (width : ℕ) (list : List Summary) (f : Summary → ℕ → X) (items : List X) (place : ℕ) (s : Summary) → AreRows d width list (length list) f items → slice_get list place ≡ Some s → row_at width items place ≡ map (f s) (numbers 0 width)
 row_is d width list f items place s are at =
     let sized = length-row_at width (length list) place items are.size (got_inside list place s at) in
     ext_get_or d (row_at width items place) (map (f s) (numbers 0 width)) (sized ∙ sym (length-numbers (f s) 0 width))
@@ -51,7 +51,7 @@ pairs_back : (all : List (ℕ × Summary)) (width : ℕ) (weeks : List WeekRows)
 pairs_back all width weeks [] = refl
 pairs_back all width weeks ((done, s) ∷ xs) = ap (λ t. (done, s) ∷ t) (pairs_back all width weeks xs)
 
-abbrev is_pair : ℕ → Summary → ℕ × Summary → Bool
+abbrev pub is_pair : ℕ → Summary → ℕ × Summary → Bool
 is_pair done s p = (p.0 == done) && same_summary p.1 s
 
 or_right : (a b : Bool) → b ≡ true → (a || b) ≡ true
@@ -61,7 +61,7 @@ or_right false b h = h
 same_from : (t s : Summary) → Some t ≡ Some s → same_summary t s ≡ true
 same_from t s e = subst (λ z. same_summary t z ≡ true) (ap (λ o. unwrap_or o t) e) (same_self t)
 
-among_any : (xs : List (ℕ × Summary)) (done : ℕ) (s : Summary) → IsAmong xs done s → list_any (is_pair done s) xs ≡ true
+pub among_any : (xs : List (ℕ × Summary)) (done : ℕ) (s : Summary) → IsAmong xs done s → list_any (is_pair done s) xs ≡ true
 among_any [] done s (k, at) = cc
 among_any ((d, t) ∷ xs) done s (k, at) = by_test (d == done) k at (λ k at. among_any xs done s (k, at))
   where
@@ -108,10 +108,10 @@ row_inside pairs width place size done s among is_place is_size =
     subst (λ n. (place + 1) * width ≤ n) (sym is_size) (row_end width (length (at_week done pairs)) place
     (subst (λ n. n < length (at_week done pairs)) (sym is_place) (got_inside (at_week done pairs) (place_of (at_week done pairs) s) s (place_found (at_week done pairs) s among))))
 
-abbrev nothing : List ℕ
+abbrev pub nothing : List ℕ
 nothing = []
 
-row_none : (width start : ℕ) → take width (drop start nothing) ≡ []
+pub row_none : (width start : ℕ) → take width (drop start nothing) ≡ []
 row_none zero zero = refl
 row_none zero (suc start) = refl
 row_none (suc width) zero = refl

@@ -21,14 +21,14 @@ use Rattle.clr_storedp.specs.BySummary.{best_value, choice_so_far, lead_value, l
 use Rattle.clr_storedp.proofs.Fees.{average_apart}
 use Rattle.clr_storedp.proofs.Prefixes.{IsPrefixOf, prefix_is, value_at_prefix}
 
-filter-same : (p q : ℕ → Bool) (xs : List ℕ) → ((x : ℕ) → p x ≡ q x) → filter p xs ≡ filter q xs
+pub filter-same : (p q : ℕ → Bool) (xs : List ℕ) → ((x : ℕ) → p x ≡ q x) → filter p xs ≡ filter q xs
 filter-same p q xs h = ap (λ f. filter f xs) (fun_ext h)
 
-best_some : (f : ℕ → ℤ) (xs : List ℕ) → (xs ≡ [] → ⊥) → f (first_best f 1 xs) ≡ best_value f xs
+pub best_some : (f : ℕ → ℤ) (xs : List ℕ) → (xs ≡ [] → ⊥) → f (first_best f 1 xs) ≡ best_value f xs
 best_some f [] some = absurd (some refl)
 best_some f (x ∷ xs) some = refl
 
-one_more : (weeks done : ℕ) → suc done ≤ weeks → weeks - done ≡ suc (weeks - suc done)
+pub one_more : (weeks done : ℕ) → suc done ≤ weeks → weeks - done ≡ suc (weeks - suc done)
 one_more weeks done h = omega arith
 
 module _ (leans : ℤ → ℤ → Type 0) (div : ℤ → ℕ → ℤ) (laws : IsDirection leans div) (m : Multipliers) (season : Season) (store done stock : ℕ) (s : Summary) (is : IsSeason season) (first : 1 ≤ store) (last : store ≤ length season.stores) (early : done < season.rules.weeks)

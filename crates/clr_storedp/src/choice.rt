@@ -17,7 +17,7 @@ use clr_rules::{Live, Rules, Summary};
 use clr_season::Season;
 
 /// Less than each value.
-const LOWEST: i64 = -4_000_000_000_000_000_000;
+pub const LOWEST: i64 = -4_000_000_000_000_000_000;
 
 /// The greater of two values with its choice, and the first where they are equal.
 #[inline(always)]
@@ -33,7 +33,7 @@ fn better(value: i64, choice: u8, other: i64, rung: u8) -> (i64, u8)
 }
 
 /// Takes a rung at each stock where its average with what is added gives more than the value so far.
-fn raise_row(averages: &[i64], more: i64, rung: u8, values: &mut [i64], choices: &mut [u8])
+pub fn raise_row(averages: &[i64], more: i64, rung: u8, values: &mut [i64], choices: &mut [u8])
     requires same { length averages.now ≡ length values.old }
     requires also { length choices.old ≡ length values.old }
     requires small { AreWithin 2000000000000000000 averages.now }
@@ -50,7 +50,7 @@ fn raise_row(averages: &[i64], more: i64, rung: u8, values: &mut [i64], choices:
 
 /// Where a rung leads from a live summary: the place, among the live ones after the next week, of the summary after it, and
 /// None where it isn't live.
-fn lead(rules: &Rules, live: &Live, done: u32, s: Summary, rung: u32) -> Option<u32>
+pub fn lead(rules: &Rules, live: &Live, done: u32, s: Summary, rung: u32) -> Option<u32>
     requires rules { IsRulebook rules.now }
     requires live { live.now ≡ live_pairs rules.now }
     requires early { done < rules.now.weeks }

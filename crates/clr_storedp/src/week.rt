@@ -53,7 +53,7 @@ impl Week {
 }
 
 /// The live summaries after so many weeks, in their order.
-fn week_list(alloc: Global, live: &Live, done: u32) -> Result<Vec<Summary>, AllocError>
+pub fn week_list(alloc: Global, live: &Live, done: u32) -> Result<Vec<Summary>, AllocError>
     ensures { IfOk result (λ list. list.items ≡ at_week done live.now) }
 {
     let mut list = Vec::with_capacity(alloc, live.count(done) as usize)?;

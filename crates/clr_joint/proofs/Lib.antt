@@ -1,0 +1,16 @@
+pub mod Cells
+pub mod Limits
+pub mod Folds
+pub mod Grid
+pub mod FoldRows
+pub mod Averages
+pub mod Costs
+pub mod Values
+pub mod Rungs
+pub mod Ends
+pub mod Sizes
+pub mod WeekRows
+pub mod Places
+pub mod Tables
+pub mod Built
+pub mod ReadAt
