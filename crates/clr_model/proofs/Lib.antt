@@ -16,3 +16,4 @@ pub mod JointBounds
 pub mod JointBySummary
 pub mod FitsBounds
 pub mod JointFold
+pub mod PrefixBound

@@ -12,3 +12,4 @@ pub mod JointLaws
 pub mod Fits
 pub mod JointFold
 pub mod Usage
+pub mod PrefixBound

@@ -22,5 +22,5 @@ pub use laws::{
     sold_in_a_week,
 };
 pub use path::Path;
-pub use store_laws::{abiding_nodes_live, bound_tops, covers_top, value_by_summary};
+pub use store_laws::{abiding_nodes_live, bound_tops, covers_top, prefix_bounds, value_by_summary};
 pub use week::{CENT, average_week, gain, relabelling};

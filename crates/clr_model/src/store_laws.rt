@@ -1,5 +1,6 @@
 // Laws of policies node by node, of a store's values under multipliers, and of the bound. Each is the contract of a function that
 // does nothing.
+ghost use Rattle.clr_model.specs.PrefixBound.{PrefixBounds};
 ghost use Rattle.clr_model.specs.StoreLaws.{AbidingNodesLive, BoundTops, CoversTop, ValueBySummary};
 
 /// Each node of a policy that abides has a live prefix, its own rung included.
@@ -21,4 +22,10 @@ pub fn covers_top()
 /// No policy that abides earns more than the bound of multipliers that sum to zero over the stores.
 pub fn bound_tops()
     ensures { BoundTops }
+{}
+
+/// Under multipliers that sum to zero over the stores, no path that obeys and begins with a prefix has a low value above the
+/// prefix's bound.
+pub fn prefix_bounds()
+    ensures { PrefixBounds }
 {}

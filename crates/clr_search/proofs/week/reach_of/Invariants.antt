@@ -1,0 +1,9 @@
+use Rattle.std.proofs.Common.{ℕ, ◌≤◌, ◌<◌, pos, get_or}
+use Rattle.clr_average.specs.Average.{IsWithin}
+use Rattle.clr_search.proofs.week.reach_of.Given as goal
+
+abbrev pub invariant-loop-value : goal.invariant-loop-value
+invariant-loop-value l = record {
+  range : l.reach ≤ 1100000000000000000;
+  done : (k : ℕ) → k < l.value-index → IsWithin l.reach (get_or l.values k (pos 0));
+}

@@ -1,0 +1,5 @@
+pub mod Precedence
+pub mod Choosing
+pub mod WalkLemmas
+pub mod Listing
+pub mod BestPath

@@ -1,0 +1,4 @@
+pub mod Prefixes
+pub mod Tight
+pub mod BestLaw
+pub mod Walks
