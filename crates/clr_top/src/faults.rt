@@ -165,12 +165,12 @@ fn cells_are_counted(rt: HostRuntime) -> Result<(), Fail> {
             demand: &demand,
             ..SMALLEST
         };
-        let words = ["plan", "f", "--steps", "0", "--nodes", "0"];
+        let words = ["plan", "f", "--steps", "1", "--nodes", "0"];
         let answer = asked_of(alloc, &words, files)?;
         assert!(rt; answer.notes(Status::Limit, "limit: cells 16004304") != fits);
         assert!(rt;
             answer.out.bytes().ends_with(
-                b"revenue 2094.00000000 2094.00000000\nbound 2094.00000000 step 0\ngap 0.00000000\n"
+                b"revenue 2094.00000000 2094.00000000\nbest open\nbound 2094.00000000 step 0\ngap 0.00000000\n"
             ) == fits
         );
     }

@@ -116,9 +116,10 @@ fn work<H: Shelf, O: Sink>(
 
 /// Does what the words ask; they are the words behind the program's name, read by `clap` as the command with the
 /// required JOB and FOLDER and the options `--steps`, `--step`, `--nodes`, `--cert` and `--seed`. `plan FOLDER` reads the
-/// season of the folder's files from the shelf and writes the plan report: of the first path that obeys, and of the bound
-/// over all policies that a descent of `--steps` steps of the size `--step` gives. The other numbers have no effect yet, and
-/// the desk isn't used.
+/// season of the folder's files from the shelf and writes the plan report: of the bound over all policies that a descent of
+/// `--steps` steps of the size `--step` gives; of the path that a search of `--nodes` tight prefixes finds with the
+/// multipliers of that bound; and, where the season is small enough, of the table for the stocks of all stores. `--seed` has
+/// no effect on a plan, and the desk isn't used.
 ///
 /// The order of the answers is: `Words`; `NotYet` of another job, and then of a certificate; file by file (rules.json,
 /// calendar.csv where the rules say that there is one, ladder.csv, stock.csv, demand.csv) `ReadFault`, `Absent`, `Limit`

@@ -15,7 +15,7 @@ const TWO_STORES: Files<'static> = Files {
     demand: b"store,week,rung,units,weight\na,1,1,1,2\na,1,2,1,2\nb,1,1,0,2\nb,1,2,1,2\n",
 };
 
-const SEASONS: [(Files<'static>, &[u8]); 14] = [
+const SEASONS: [(Files<'static>, &[u8]); 15] = [
     (SMALLEST, SMALLEST_REPORT),
     // Two thirds of a sale, rounded down and up.
     (
@@ -24,7 +24,7 @@ const SEASONS: [(Files<'static>, &[u8]); 14] = [
             demand: b"store,week,rung,units,weight\na,1,1,0,1\na,1,1,1,2\n",
             ..SMALLEST
         },
-        b"season 1 stores 1 weeks 1 rungs base 3\npath 1\nprices 10.00\nrevenue 7.33333333 7.33333334\nbound 7.33333334 step 0\ngap 0.00000001\n",
+        b"season 1 stores 1 weeks 1 rungs base 3\npath 1\nprices 10.00\nrevenue 7.33333333 7.33333334\nbest yes\nbound 7.33333334 step 0\ngap 0.00000001\nexact 7.33333333 7.33333334 first 1\n",
     ),
     // The same demand in two weeks: the rounding of the second week is carried into the first.
     (
@@ -33,7 +33,7 @@ const SEASONS: [(Files<'static>, &[u8]); 14] = [
             demand: b"store,week,rung,units,weight\na,1,1,0,1\na,1,1,1,2\na,2,1,0,1\na,2,1,1,2\n",
             ..SMALLEST
         },
-        b"season 1 stores 2 weeks 1 rungs base 3\npath 1 1\nprices 10.00 10.00\nrevenue 9.11111111 9.11111112\nbound 9.11111112 step 0\ngap 0.00000001\n",
+        b"season 1 stores 2 weeks 1 rungs base 3\npath 1 1\nprices 10.00 10.00\nrevenue 9.11111111 9.11111112\nbest yes\nbound 9.11111112 step 0\ngap 0.00000001\nexact 9.11111111 9.11111112 first 1\n",
     ),
     // Nothing to sell.
     (
@@ -41,7 +41,7 @@ const SEASONS: [(Files<'static>, &[u8]); 14] = [
             stock: b"store,units,salvage\na,0,2.00\n",
             ..SMALLEST
         },
-        b"season 1 stores 1 weeks 1 rungs base 4\npath 1\nprices 10.00\nrevenue 0.00000000 0.00000000\nbound 0.00000000 step 0\ngap 0.00000000\n",
+        b"season 1 stores 1 weeks 1 rungs base 4\npath 1\nprices 10.00\nrevenue 0.00000000 0.00000000\nbest yes\nbound 0.00000000 step 0\ngap 0.00000000\nexact 0.00000000 0.00000000 first 1\n",
     ),
     // More is asked for than there is.
     (
@@ -50,7 +50,7 @@ const SEASONS: [(Files<'static>, &[u8]); 14] = [
             demand: b"store,week,rung,units,weight\na,1,1,3,1\n",
             ..SMALLEST
         },
-        b"season 1 stores 1 weeks 1 rungs base 1\npath 1\nprices 10.00\nrevenue 10.00000000 10.00000000\nbound 10.00000000 step 0\ngap 0.00000000\n",
+        b"season 1 stores 1 weeks 1 rungs base 1\npath 1\nprices 10.00\nrevenue 10.00000000 10.00000000\nbest yes\nbound 10.00000000 step 0\ngap 0.00000000\nexact 10.00000000 10.00000000 first 1\n",
     ),
     // The largest values.
     (
@@ -61,12 +61,12 @@ const SEASONS: [(Files<'static>, &[u8]); 14] = [
             demand: b"store,week,rung,units,weight\na,1,1,200,1\na,2,1,200,1\na,3,1,200,1\na,4,1,200,1\na,5,1,200,1\na,6,1,200,1\na,7,1,200,1\na,8,1,200,1\na,9,1,200,1\na,10,1,200,1\n",
             ..SMALLEST
         },
-        b"season 1 stores 10 weeks 1 rungs base 1\npath 1 1 1 1 1 1 1 1 1 1\nprices 100000.00 100000.00 100000.00 100000.00 100000.00 100000.00 100000.00 100000.00 100000.00 100000.00\nrevenue 200000000.00000000 200000000.00000000\nbound 200000000.00000000 step 0\ngap 0.00000000\n",
+        b"season 1 stores 10 weeks 1 rungs base 1\npath 1 1 1 1 1 1 1 1 1 1\nprices 100000.00 100000.00 100000.00 100000.00 100000.00 100000.00 100000.00 100000.00 100000.00 100000.00\nrevenue 200000000.00000000 200000000.00000000\nbest yes\nbound 200000000.00000000 step 0\ngap 0.00000000\nexact 200000000.00000000 200000000.00000000 first 1\n",
     ),
     // A policy that waits for the first week's demand earns more than each path.
     (
         TWO_WEEKS,
-        b"season 1 stores 2 weeks 2 rungs base 2\npath 1 1\nprices 10.00 10.00\nrevenue 10.00000000 10.00000000\nbound 11.50000000 step 0\ngap 1.50000000\n",
+        b"season 1 stores 2 weeks 2 rungs base 2\npath 1 2\nprices 10.00 4.00\nrevenue 11.00000000 11.00000000\nbest yes\nbound 11.50000000 step 0\ngap 0.50000000\nexact 11.50000000 11.50000000 first 1\n",
     ),
     // Byte order marks, carriage returns, quotes, blank lines, and spaces and tabs round the fields.
     (
@@ -100,7 +100,7 @@ const SEASONS: [(Files<'static>, &[u8]); 14] = [
     // multipliers of the second step bring them together.
     (
         TWO_STORES,
-        b"season 2 stores 1 weeks 2 rungs base 2\npath 1\nprices 10.00\nrevenue 10.00000000 10.00000000\nbound 12.00000000 step 2\ngap 2.00000000\n",
+        b"season 2 stores 1 weeks 2 rungs base 2\npath 2\nprices 6.00\nrevenue 12.00000000 12.00000000\nbest yes\nbound 12.00000000 step 2\ngap 0.00000000\nexact 12.00000000 12.00000000 first 2\n",
     ),
     // Version 2: a cost of relabelling.
     (
@@ -109,7 +109,7 @@ const SEASONS: [(Files<'static>, &[u8]); 14] = [
             stock: b"store,units,salvage,relabel\na,2,0,0.50\n",
             ..TWO_WEEKS
         },
-        b"season 1 stores 2 weeks 2 rungs base 2\npath 1 1\nprices 10.00 10.00\nrevenue 10.00000000 10.00000000\nbound 11.25000000 step 0\ngap 1.25000000\n",
+        b"season 1 stores 2 weeks 2 rungs base 2\npath 1 2\nprices 10.00 4.00\nrevenue 10.50000000 10.50000000\nbest yes\nbound 11.25000000 step 0\ngap 0.75000000\nexact 11.25000000 11.25000000 first 1\n",
     ),
     // Version 3: the weights 1 and 3 are scaled to the base 12.
     (
@@ -118,7 +118,7 @@ const SEASONS: [(Files<'static>, &[u8]); 14] = [
             stock: b"store,units,salvage,relabel\na,1,2.00,0\n",
             ..SMALLEST
         },
-        b"season 1 stores 1 weeks 1 rungs base 12\npath 1\nprices 10.00\nrevenue 8.00000000 8.00000000\nbound 8.00000000 step 0\ngap 0.00000000\n",
+        b"season 1 stores 1 weeks 1 rungs base 12\npath 1\nprices 10.00\nrevenue 8.00000000 8.00000000\nbest yes\nbound 8.00000000 step 0\ngap 0.00000000\nexact 8.00000000 8.00000000 first 1\n",
     ),
     // A name of 64 bytes.
     (
@@ -128,6 +128,16 @@ const SEASONS: [(Files<'static>, &[u8]); 14] = [
             ..SMALLEST
         },
         SMALLEST_REPORT,
+    ),
+    // The chances of a week of all stores sum to 10^24, which is too great for a table of all stores.
+    (
+        Files {
+            rules: b"{\"weeks\":1,\"base\":1000000}",
+            stock: b"store,units,salvage\na,1,0.50\nb,1,0\nc,1,0\nd,1,0\n",
+            demand: b"store,week,rung,units,weight\na,1,1,0,1000000\nb,1,1,0,1000000\nc,1,1,0,1000000\nd,1,1,0,1000000\n",
+            ..SMALLEST
+        },
+        b"season 4 stores 1 weeks 1 rungs base 1000000\npath 1\nprices 10.00\nrevenue 0.50000000 0.50000000\nbest yes\nbound 0.50000000 step 0\ngap 0.00000000\n",
     ),
 ];
 
@@ -148,15 +158,15 @@ fn seasons_are_planned(rt: HostRuntime) -> Result<(), Fail> {
 const STEPS: [(&[&str], &str); 3] = [
     (
         &["plan", "f", "--steps", "0"],
-        "bound 16.00000000 step 0\ngap 6.00000000\n",
+        "bound 16.00000000 step 0\ngap 4.00000000\nexact 12.00000000 12.00000000 first 2\n",
     ),
     (
         &["plan", "f", "--steps", "1"],
-        "bound 16.00000000 step 0\ngap 6.00000000\n",
+        "bound 16.00000000 step 0\ngap 4.00000000\nexact 12.00000000 12.00000000 first 2\n",
     ),
     (
         &["plan", "f", "--steps", "2"],
-        "bound 12.00000000 step 2\ngap 2.00000000\n",
+        "bound 12.00000000 step 2\ngap 0.00000000\nexact 12.00000000 12.00000000 first 2\n",
     ),
 ];
 
