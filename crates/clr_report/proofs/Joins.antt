@@ -20,3 +20,17 @@ pub three_words : (word low high old a b c : List ℕ) → a ≡ old ++ ((word +
 three_words word low high old a b c first next last =
     last ∙ (ap (λ t. t ++ 10 ∷ []) (next ∙ (ap (λ t. t ++ 32 ∷ high) (first ∙ ap (λ t. old ++ t) (append_assoc word (32 ∷ []) low)) ∙ append_assoc old (word ++ 32 ∷ low) (32 ∷ high)))
     ∙ (append_assoc old ((word ++ 32 ∷ low) ++ 32 ∷ high) (10 ∷ []) ∙ ap (λ t. old ++ (t ++ 10 ∷ [])) (append_assoc word (32 ∷ low) (32 ∷ high))))
+
+-- a word and a space, a second word, then the end of the line
+pub two_words : (word next old a b : List ℕ) → a ≡ old ++ ((word ++ 32 ∷ []) ++ next) → b ≡ a ++ 10 ∷ [] → b ≡ old ++ line (word ∷ next ∷ [])
+two_words word next old a b first last =
+    last ∙ (ap (λ t. t ++ 10 ∷ []) (first ∙ ap (λ t. old ++ t) (append_assoc word (32 ∷ []) next)) ∙ append_assoc old (word ++ 32 ∷ next) (10 ∷ []))
+
+-- a word and a space, a second word, a third after a space, a fourth between spaces, a fifth, then the end of the line
+pub five_words : (word low high next last old a b c d : List ℕ) → a ≡ old ++ ((word ++ 32 ∷ []) ++ low) → b ≡ a ++ (32 ∷ high) → c ≡ b ++ ((32 ∷ (next ++ 32 ∷ [])) ++ last) → d ≡ c ++ 10 ∷ [] →
+    d ≡ old ++ line (word ∷ low ∷ high ∷ next ∷ last ∷ [])
+five_words word low high next last old a b c d p q r s =
+    s ∙ (ap (λ t. t ++ 10 ∷ []) (r ∙ ap (λ t. t ++ ((32 ∷ (next ++ 32 ∷ [])) ++ last)) (q ∙ ap (λ t. t ++ (32 ∷ high)) p)) ∙ shape)
+  where
+    shape : (((old ++ ((word ++ 32 ∷ []) ++ low)) ++ (32 ∷ high)) ++ ((32 ∷ (next ++ 32 ∷ [])) ++ last)) ++ 10 ∷ [] ≡ old ++ line (word ∷ low ∷ high ∷ next ∷ last ∷ [])
+    shape = simp append_assoc

@@ -4,3 +4,4 @@ pub mod Joins
 pub mod Spaced
 pub mod OneLine
 pub mod Names
+pub mod Gaps

@@ -1,11 +1,16 @@
--- The first lines of the plan report: the sizes, the path, its prices and its revenue.
-use Rattle.std.specs.Prelude.{◌≡◌, length, ℕ, ◌^◌, ◌<◌, ◌≤◌, List, [], ◌∷◌, ◌++◌, map, All, ℤ, unsigned_abs, codes, decimal}
+-- The plan report: the sizes, the path with its prices and its revenue, whether it is the best, the bound over all policies and how far
+-- below it the path stays, and what the best policy earns where all stores were solved together.
+use Rattle.std.specs.Prelude.{◌≡◌, length, ℕ, ◌^◌, ◌<◌, ◌≤◌, ◌↔◌, Bool, if◌then◌else◌, IfSome, IsSome, IsTrue, List, [], ◌∷◌, ◌++◌, map, Option, None, Some, ℤ, ◌-ℤ◌, codes, decimal}
 use Rattle.clr_num.specs.Money.{cents_text, money_text}
 use Rattle.clr_average.specs.Average.{IsWithin}
 use Rattle.clr_rules.specs.Rules.{IsPath, price}
 use Rattle.clr_season.specs.Season.{Season, IsSeason}
+use Rattle.clr_model.specs.Fits.{fits}
+use Rattle.clr_report.specs.declared.plan.PlanFacts.{PlanFacts}
 use Rattle.clr_report.specs.declared.plan.PlanSizes.{PlanSizes}
 use Rattle.clr_report.specs.Lines.{line}
+
+-- ---- the lines
 
 -- how many stores, weeks and rungs there are, and the base of the weights
 abbrev pub season_line : PlanSizes → List ℕ
@@ -23,41 +28,61 @@ prices_line prices = line (codes "prices" ∷ map cents_text prices)
 abbrev pub revenue_line : ℤ → ℤ → List ℕ
 revenue_line low high = line (codes "revenue" ∷ money_text low ∷ money_text high ∷ [])
 
--- the four lines
-abbrev pub plan_lines : PlanSizes → List ℕ → List ℕ → ℤ → ℤ → List ℕ
-plan_lines sizes rungs prices low high = season_line sizes ++ path_line rungs ++ prices_line prices ++ revenue_line low high
+-- whether the search took all tight prefixes, so that no path has a greater low value
+abbrev pub best_line : Bool → List ℕ
+best_line best = line (codes "best" ∷ (if best then codes "yes" else codes "open") ∷ [])
+
+-- the bound over all policies, in units, and the step of the descent that gave it
+abbrev pub bound_line : ℤ → ℕ → List ℕ
+bound_line bound step = line (codes "bound" ∷ money_text bound ∷ codes "step" ∷ decimal step ∷ [])
+
+-- how far the path's low value stays below the bound, in units
+abbrev pub gap_line : ℤ → List ℕ
+gap_line gap = line (codes "gap" ∷ money_text gap ∷ [])
+
+-- What all stores together can earn at most, rounded down and up, in units, and the rung that the table policy begins with. There is
+-- no such line where they weren't solved together.
+abbrev pub exact_line : Option (ℤ × ℤ × ℕ) → List ℕ
+exact_line None = []
+exact_line (Some (low, top, rung)) = line (codes "exact" ∷ money_text low ∷ money_text top ∷ codes "first" ∷ decimal rung ∷ [])
+
+-- ---- the report
 
 -- the sizes of a season
 abbrev pub sizes_of : Season → PlanSizes
 sizes_of season = record { stores = length season.stores; weeks = season.rules.weeks; rungs = length season.rules.prices; base = season.base }
 
--- the report on a path of a season, with the two ends of its revenue in units of 10^-8 of the currency
-unfoldable pub plan_text : Season → List ℕ → ℤ → ℤ → List ℕ
-plan_text season path low high = plan_lines (sizes_of season) path (map (price season.rules) path) low high
+-- the report on a plan of a season
+unfoldable pub plan_text : Season → PlanFacts → List ℕ
+plan_text season facts =
+    season_line (sizes_of season)
+    ++ path_line facts.path
+    ++ prices_line (map (price season.rules) facts.path)
+    ++ revenue_line facts.low facts.high
+    ++ best_line facts.best
+    ++ bound_line facts.bound facts.at_step
+    ++ gap_line (facts.bound -ℤ facts.low)
+    ++ exact_line facts.exact
 
--- a path of the season, and money of at most 10^20 units in size
-pub record IsPlanOf (season : Season) (rungs : List ℕ) (least most : ℤ) : Type 0 where
-  pub path : IsPath season.rules rungs
-  pub low : IsWithin 100000000000000000000 least
-  pub high : IsWithin 100000000000000000000 most
+-- money of at most 10^20 units in size, and a rung of the season
+pub record IsExactOf (season : Season) (exact : ℤ × ℤ × ℕ) : Type 0 where
+  pub low : IsWithin 100000000000000000000 exact.0
+  pub top : IsWithin 100000000000000000000 exact.1
+  pub first : 1 ≤ exact.2
+  pub last : exact.2 ≤ length season.rules.prices
 
--- For one season the report determines the path and both numbers.
+-- A path of the season, and money of at most 10^20 units in size. All stores were solved together exactly where the season is small
+-- enough.
+pub record IsPlanOf (season : Season) (facts : PlanFacts) : Type 0 where
+  pub path : IsPath season.rules facts.path
+  pub low : IsWithin 100000000000000000000 facts.low
+  pub high : IsWithin 100000000000000000000 facts.high
+  pub bound : IsWithin 100000000000000000000 facts.bound
+  pub exact : IfSome facts.exact (IsExactOf season)
+  pub fit : IsTrue (fits season) ↔ IsSome facts.exact
+
+-- For one season the report determines the path and each number.
 abbrev pub PlanTextDetermines : Type 0
 PlanTextDetermines =
-    (season : Season) (path other : List ℕ) (low high least most : ℤ) → IsSeason season → IsPlanOf season path low high → IsPlanOf season other least most →
-    plan_text season path low high ≡ plan_text season other least most → (path ≡ other) × (low ≡ least) × (high ≡ most)
-
--- the numbers of a plan are in the ranges of their types
-pub record FitsPlan (sizes : PlanSizes) (rungs prices : List ℕ) (low high : ℤ) : Type 0 where
-  pub stores : sizes.stores < 2 ^ 32
-  pub weeks : sizes.weeks < 2 ^ 32
-  pub ladder : sizes.rungs < 2 ^ 32
-  pub base : sizes.base < 2 ^ 32
-  pub path : All (λ rung. rung < 2 ^ 32) rungs
-  pub cents : All (λ price. price < 2 ^ 64) prices
-  pub least : unsigned_abs low ≤ 2 ^ 127
-  pub most : unsigned_abs high ≤ 2 ^ 127
-
--- the lines tell the sizes, the path, its prices and both ends of its revenue
-abbrev pub PlanLinesDetermine : Type 0
-PlanLinesDetermine = (sizes others : PlanSizes) (rungs path prices costs : List ℕ) (low high least most : ℤ) → FitsPlan sizes rungs prices low high → FitsPlan others path costs least most → plan_lines sizes rungs prices low high ≡ plan_lines others path costs least most → (sizes ≡ others) × (rungs ≡ path) × (prices ≡ costs) × (low ≡ least) × (high ≡ most)
+    (season : Season) (facts others : PlanFacts) → IsSeason season → IsPlanOf season facts → IsPlanOf season others →
+    facts.at_step < 2 ^ 32 → others.at_step < 2 ^ 32 → plan_text season facts ≡ plan_text season others → facts ≡ others

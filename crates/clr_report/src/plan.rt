@@ -1,9 +1,10 @@
 //! The plan report.
-ghost use Rattle.clr_report.specs.PlanText.{path_line, plan_lines, plan_text, prices_line, revenue_line, season_line, IsPlanOf, PlanTextDetermines};
+ghost use Rattle.clr_report.specs.PlanText.{best_line, bound_line, exact_line, gap_line, path_line, plan_text, prices_line, revenue_line, season_line, sizes_of, IsPlanOf, PlanTextDetermines};
 ghost use Rattle.clr_rules.specs.Rules.{IsPath, price};
+ghost use Rattle.clr_average.specs.Average.{IsWithin};
 ghost use Rattle.clr_num.specs.Money.{cents_text, money_text};
 ghost use Rattle.std.specs.List.{flat_map};
-ghost use Rattle.std.specs.Prelude.{◌≡◌, ◌∷◌, ◌++◌, decimal, map, IfOk, OnOk};
+ghost use Rattle.std.specs.Prelude.{◌≡◌, ◌∷◌, ◌++◌, ◌-ℤ◌, decimal, map, IfOk, OnOk, Some};
 
 use clr_model::Path;
 use clr_num::{print_cents, print_money};
@@ -24,46 +25,62 @@ pub(crate) struct PlanSizes {
     pub base: u32,
 }
 
-/// What a plan report tells of a season's path.
+/// What a plan report tells of a season. Money is in units of 10^-8 of the currency.
 #[derive(Drop)]
 pub struct PlanFacts {
     /// The rung of each week.
     pub path: Path,
-    /// The path's value rounded down, in units of 10^-8 of the currency.
+    /// The path's value rounded down.
     pub low: i128,
     /// The path's value rounded up.
     pub high: i128,
+    /// Whether no path that obeys the rules has a greater low value, as far as the search has shown it.
+    pub best: bool,
+    /// What no policy that obeys the rules earns more than.
+    pub bound: i128,
+    /// The step of the descent that gave the bound, from 0.
+    pub at_step: u32,
+    /// Where all stores were solved together: what they earn at most, rounded down and rounded up, and the rung of the first
+    /// week, from 1.
+    pub exact: Option<(i128, i128, u32)>,
 }
 
-/// The first lines of the plan report: the season's sizes, the path, its prices and its revenue.
+/// The plan report: the season's sizes, the path, its prices and its revenue, whether it is the best, the bound over all
+/// policies with the step that gave it, the gap from the path's low value up to the bound, and the exact values of all stores
+/// together, which `facts` has exactly where the season is small enough.
 ///
 /// Each line ends with one line feed. The only error is want of memory.
 #[tactic(auto, unfolding(crate::specs::PlanText::plan_text))]
 pub fn plan_text(alloc: Global, season: &Season, facts: &PlanFacts) -> Result<Vec<u8>, AllocError>
-    requires { IsPlanOf season.now facts.now.path facts.now.low facts.now.high }
-    ensures { IfOk result (λ text. text.items ≡ plan_text season.now facts.now.path facts.now.low facts.now.high) }
+    requires { IsPlanOf season.now facts.now }
+    ensures { IfOk result (λ text. text.items ≡ plan_text season.now facts.now) }
 {
-    let sizes = PlanSizes {
+    let mut text = Vec::new(alloc);
+    print_head(alloc, season, &facts.path, &mut text)?;
+    print_revenue(facts.low, facts.high, &mut text)?;
+    print_best(facts.best, &mut text)?;
+    print_bound(facts.bound, facts.at_step, &mut text)?;
+    print_gap(facts.bound, facts.low, &mut text)?;
+    print_exact(facts.exact, &mut text)?;
+    Ok(text)
+}
+
+/// For one season the report determines the path and each number.
+pub fn plan_text_determines()
+    ensures { PlanTextDetermines }
+{}
+
+/// The sizes of a season.
+fn sizes_of(season: &Season) -> PlanSizes
+    ensures { result ≡ sizes_of season.now }
+{
+    PlanSizes {
         stores: season.stores(),
         weeks: season.weeks(),
         rungs: season.rungs(),
         base: season.base(),
-    };
-    let prices = week_prices(alloc, season, &facts.path)?;
-    plan_lines(
-        alloc,
-        sizes,
-        facts.path.rungs(),
-        &prices,
-        facts.low,
-        facts.high,
-    )
+    }
 }
-
-/// For one season the report determines the path and both numbers.
-pub fn plan_text_determines()
-    ensures { PlanTextDetermines }
-{}
 
 /// The price of each week in cents.
 fn week_prices(alloc: Global, season: &Season, path: &Path) -> Result<Vec<u64>, AllocError>
@@ -77,26 +94,22 @@ fn week_prices(alloc: Global, season: &Season, path: &Path) -> Result<Vec<u64>, 
     Ok(prices)
 }
 
-/// The lines on the sizes, the path, its prices and its revenue.
-///
-/// `rungs` has the rung of each week, from 1, and `prices` the price of each week in cents.
-/// `low` and `high` are the ends of the path's revenue, in units of 10^-8 of the currency.
-fn plan_lines(
+/// Appends the lines on the season's sizes, on a path and on its prices.
+fn print_head(
     alloc: Global,
-    sizes: PlanSizes,
-    rungs: &[u32],
-    prices: &[u64],
-    low: i128,
-    high: i128,
-) -> Result<Vec<u8>, AllocError>
-    ensures { IfOk result (λ text. text.items ≡ plan_lines sizes rungs.now prices.now low high) }
+    season: &Season,
+    path: &Path,
+    out: &mut Vec<u8>,
+) -> Result<(), AllocError>
+    requires { IsPath season.now.rules path.now }
+    ensures { OnOk result (out.new.items ≡ out.old.items
+        ++ season_line (sizes_of season.now) ++ path_line path.now ++ prices_line (map (price season.now.rules) path.now)) }
 {
-    let mut text = Vec::new(alloc);
-    print_season(sizes, &mut text)?;
-    print_path(rungs, &mut text)?;
-    print_prices(prices, &mut text)?;
-    print_revenue(low, high, &mut text)?;
-    Ok(text)
+    let prices = week_prices(alloc, season, path)?;
+    print_season(sizes_of(season), out)?;
+    print_path(path.rungs(), out)?;
+    print_prices(&prices, out)?;
+    Ok(())
 }
 
 /// Appends the line on the sizes.
@@ -160,6 +173,60 @@ fn print_revenue(low: i128, high: i128, out: &mut Vec<u8>) -> Result<(), AllocEr
 {
     print_amount(b"revenue ", low, out)?;
     print_amount(b" ", high, out)?;
+    out.extend_from_slice(b"\n")?;
+    Ok(())
+}
+
+/// Appends the line on whether the path is the best.
+fn print_best(best: bool, out: &mut Vec<u8>) -> Result<(), AllocError>
+    ensures { OnOk result (out.new.items ≡ out.old.items ++ best_line best) }
+{
+    if best {
+        out.extend_from_slice(b"best yes\n")
+    } else {
+        out.extend_from_slice(b"best open\n")
+    }
+}
+
+/// Appends the line on all stores together, where they were solved so: two values in units of 10^-8 of the currency, and a
+/// rung.
+fn print_exact(exact: Option<(i128, i128, u32)>, out: &mut Vec<u8>) -> Result<(), AllocError>
+    ensures { OnOk result (out.new.items ≡ out.old.items ++ exact_line exact) }
+{
+    match exact {
+        Some((low, top, rung)) => print_values(low, top, rung, out),
+        None => Ok(()),
+    }
+}
+
+/// Appends the line on two values of all stores together, in units of 10^-8 of the currency, and a rung.
+fn print_values(low: i128, top: i128, rung: u32, out: &mut Vec<u8>) -> Result<(), AllocError>
+    ensures { OnOk result (out.new.items ≡ out.old.items ++ exact_line (Some (low, top, rung))) }
+{
+    print_amount(b"exact ", low, out)?;
+    print_amount(b" ", top, out)?;
+    print_size(b" first ", rung, out)?;
+    out.extend_from_slice(b"\n")?;
+    Ok(())
+}
+
+/// Appends the line on the bound, in units of 10^-8 of the currency, and the step that gave it.
+fn print_bound(bound: i128, step: u32, out: &mut Vec<u8>) -> Result<(), AllocError>
+    ensures { OnOk result (out.new.items ≡ out.old.items ++ bound_line bound step) }
+{
+    print_amount(b"bound ", bound, out)?;
+    print_size(b" step ", step, out)?;
+    out.extend_from_slice(b"\n")?;
+    Ok(())
+}
+
+/// Appends the line on the gap from a low value up to a bound, both in units of 10^-8 of the currency.
+fn print_gap(bound: i128, low: i128, out: &mut Vec<u8>) -> Result<(), AllocError>
+    requires bound { IsWithin 100000000000000000000 bound }
+    requires low { IsWithin 100000000000000000000 low }
+    ensures { OnOk result (out.new.items ≡ out.old.items ++ gap_line (bound -ℤ low)) }
+{
+    print_amount(b"gap ", bound - low, out)?;
     out.extend_from_slice(b"\n")?;
     Ok(())
 }

@@ -11,7 +11,7 @@ use Rattle.clr_rules.specs.FirstPath.{NoPathObeys, SomePathObeys}
 use Rattle.clr_rules.specs.Rules.{Rulebook, is_live, obeys}
 use Rattle.clr_rules.proofs.FirstPaths.{some_or_none_obeys_lem}
 use Rattle.clr_season.specs.Reads.{Gives, Stop, absent, most_bytes, refused, season_in, too_long, too_many_cells}
-use Rattle.clr_season.specs.Season.{Season}
+use Rattle.clr_season.specs.Season.{IsSeason, Season}
 use Rattle.clr_season.specs.declared.reads.File.{File}
 use Rattle.clr_season.specs.declared.reads.SeasonError.{SeasonError}
 use Rattle.clr_season.specs.declared.reads.SeasonError.TheVariants as e
@@ -86,6 +86,14 @@ words-answer files words taken shelf_old shelf_new out_old out_new ending (inr i
 pub none-lives : (rules : Rulebook) (any : Bool) (count : ℕ) → any ≡ false → (IsTrue any ↔ 0 < count) → ((0 < count) ↔ SomePathObeys rules) → NoPathObeys rules
 none-lives rules any count none tests some = λ path keeps. let yes : IsTrue any = tests.1 (some.1 ((some_or_none_obeys_lem rules).some.1 (path, keeps))) in cc
 
+-- a season that was read and isn't planned, and why the run ends by it
+pub plan-caused :
+    (files : Option Files) (words : List (List ℕ)) (ask : Ask) (season : Season) (taken shelf_old shelf_new out_old out_new : ℕ) (ending : Ending) → asked_plan words ≡ Ok ask →
+    IfSome files (λ held. season_in held ask.folder ≡ Ok season) → IsSeason season → (ending ≡ By Memory) ⊎ ((ending ≡ By NoPath) × NoPathObeys season.rules) →
+    Caused files words taken shelf_old shelf_new out_old out_new ending
+plan-caused files words ask season taken shelf_old shelf_new out_old out_new ending asked is facts (inl memory) = rw memory tt
+plan-caused files words ask season taken shelf_old shelf_new out_old out_new ending asked is facts (inr none) = rw (none.0) (ask, season, asked, is, facts, none.1)
+
 -- ---- the statuses
 
 -- what comes before the report is written ends by no fault of its sink
@@ -158,7 +166,7 @@ some-obeys given season path is keeps = let lives : is_live season.rules [] ≡ 
 
 -- where a report is made, a season is planned
 pub planned-so : (held : Files) (words : List (List ℕ)) (Holds : List ℕ → Type 0) → Reports (Some held) words Holds → IsOk (planned held words)
-planned-so held words Holds (ask, season, asked, is, facts, (path, low, high, plan, holds)) = rw (asked, some-obeys (season_in held ask.folder) season path is plan.first.obeying) refl
+planned-so held words Holds (ask, season, asked, is, facts, (plan_facts, plan, sound, holds)) = rw (asked, some-obeys (season_in held ask.folder) season plan_facts.path is sound.obeying) refl
 
 -- the same where files are told or not
 pub planned-told : (files : Option Files) (words : List (List ℕ)) (Holds : List ℕ → Type 0) → Reports files words Holds → IfSome files (λ held. IsOk (planned held words))

@@ -1,23 +1,30 @@
 -- What the report of a season's plan says.
-use Rattle.std.proofs.Common.{◌≡◌, ℕ, ℤ, List, sym}
-use Rattle.clr_rules.specs.FirstPath.{IsFirstObeying}
-use Rattle.clr_rules.specs.Rules.{IsPath}
-use Rattle.clr_season.specs.Season.{IsSeason, Season}
-use Rattle.clr_model.specs.Laws.{IsInterval}
-use Rattle.clr_model.specs.PathValue.{path_high, path_low}
-use Rattle.clr_model.proofs.PathBounds.{path_enclosed_lem}
+use Rattle.std.proofs.Common.{◌≡◌, ◌∙◌, ℕ, ◌-◌, ◌^◌, ℤ, List, sym, arith}
+use Rattle.std.proofs.lemmas.Int.{to_z-of_z}
+use Rattle.std.specs.Prelude.{IsTrue}
+use mir.Syntax.{w128}
+use Rattle.clr_average.specs.Average.{IsWithin}
+use Rattle.clr_average.proofs.Reading.{read, within_128}
+use Rattle.clr_average.proofs.Within.{within_more}
+use Rattle.clr_words.specs.Asked.{Ask}
+use Rattle.clr_rules.specs.Rules.{IsPath, Rulebook, obeys}
+use Rattle.clr_rules.proofs.LiveLemmas.{obeys-are_rungs, obeys-length}
+use Rattle.clr_season.specs.Season.{Season}
 use Rattle.clr_report.specs.PlanText.{plan_text}
-use Rattle.clr_top.specs.Runs.{IsPlan, OfPlan}
+use Rattle.clr_report.specs.declared.plan.PlanFacts.{PlanFacts}
+use Rattle.clr_top.specs.Plans.{IsPlan, IsSound, OfPlan}
 
-pub is-plan :
-    (season : Season) (path : List ℕ) (low high : ℤ) → IsSeason season → IsFirstObeying season.rules path → IsPath season.rules path → low ≡ path_low season path → high ≡ path_high season path → IsPlan season path low high
-is-plan season path low high facts first is least most =
-    let interval : IsInterval season path low high = rw (least, most) (path_enclosed_lem season path facts is) in
-    record { first = first; least = least; most = most; interval = interval }
-
-pub planned-text : (season : Season) (path : List ℕ) (low high : ℤ) (text : List ℕ) → text ≡ plan_text season path low high → IsPlan season path low high → OfPlan season (λ told. text ≡ told)
-planned-text season path low high text is plan = (path, low, high, plan, is)
+pub planned-text : (season : Season) (ask : Ask) (facts : PlanFacts) (text : List ℕ) → text ≡ plan_text season facts → IsPlan season ask facts → IsSound season facts → OfPlan season ask (λ told. text ≡ told)
+planned-text season ask facts text is plan sound = (facts, plan, sound, is)
 
 -- what holds of the text holds of what the report says
-pub reported : (season : Season) (text : List ℕ) (Holds : List ℕ → Type 0) → OfPlan season (λ told. text ≡ told) → Holds text → OfPlan season Holds
-reported season text Holds (path, low, high, plan, is) holds = (path, low, high, plan, rw (sym is) holds)
+pub reported : (season : Season) (ask : Ask) (text : List ℕ) (Holds : List ℕ → Type 0) → OfPlan season ask (λ told. text ≡ told) → Holds text → OfPlan season ask Holds
+reported season ask text Holds (facts, plan, sound, is) holds = (facts, plan, sound, rw (sym is) holds)
+
+-- an amount that was passed on
+pub passed_on : (told amount : ℤ) → IsWithin 100000000000000000000 amount → told ≡ read w128 amount → told ≡ amount
+passed_on told amount size is = is ∙ to_z-of_z w128 amount (within_128 amount (within_more 100000000000000000000 (2 ^ 127 - 1) amount size (omega arith)))
+
+-- a path that obeys has a rung of the ladder for each week
+pub path_obeying : (rules : Rulebook) (path : List ℕ) → IsTrue (obeys rules path) → IsPath rules path
+path_obeying rules path obeying = record { weeks = obeys-length rules path obeying; rungs = obeys-are_rungs rules path obeying }

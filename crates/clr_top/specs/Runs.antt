@@ -1,5 +1,5 @@
 -- What a run is asked, what it reports, and why it ends without a report.
-use Rattle.std.specs.Prelude.{◌≡◌, ◌⊎◌, ◌++◌, ◌∷◌, [], ℕ, ℤ, ◌≤◌, ◌<◌, IfSome, IsOk, List, codes, length, take, Option, Some, None, Result, Ok, Err, if◌then◌else◌}
+use Rattle.std.specs.Prelude.{◌≡◌, ◌⊎◌, ◌++◌, ◌∷◌, [], ℕ, ◌≤◌, ◌<◌, IfSome, IsOk, List, codes, length, take, Option, Some, None, Result, Ok, Err, if◌then◌else◌}
 use Rattle.std.specs.Str.{bytes_eq}
 use Rattle.std.specs.Io.KnownBytes.{Appends}
 use Rattle.clr_io.specs.Causes.{Rose}
@@ -8,7 +8,7 @@ use Rattle.clr_words.specs.Asked.{Ask, ask_of, asked_of}
 use Rattle.clr_words.specs.declared.asked.Asked.{Asked}
 use Rattle.clr_words.specs.declared.asked.Job.{Job}
 use Rattle.clr_words.specs.declared.asked.Job.TheVariants as j
-use Rattle.clr_rules.specs.FirstPath.{IsFirstObeying, NoPathObeys}
+use Rattle.clr_rules.specs.FirstPath.{NoPathObeys}
 use Rattle.clr_rules.specs.Rules.{is_live}
 use Rattle.clr_season.specs.Season.{Season, IsSeason}
 use Rattle.clr_season.specs.Reads.{ReachesFile, Stop, absent, most_bytes, refused, season_in, too_long, too_many_cells}
@@ -16,14 +16,12 @@ use Rattle.clr_season.specs.declared.reads.File.{File}
 use Rattle.clr_season.specs.declared.reads.File.TheVariants as f
 use Rattle.clr_season.specs.declared.reads.SeasonError.{SeasonError}
 use Rattle.clr_season.specs.declared.reads.SeasonError.TheVariants as e
-use Rattle.clr_model.specs.Laws.{IsInterval}
-use Rattle.clr_model.specs.PathValue.{path_low, path_high}
 use Rattle.clr_report.specs.NoteText.{note_text_of}
-use Rattle.clr_report.specs.PlanText.{plan_text}
 use Rattle.clr_report.specs.declared.note.Doc.{Doc}
 use Rattle.clr_report.specs.declared.note.Doc.TheVariants as d
 use Rattle.clr_report.specs.declared.note.Cause.{Cause}
 use Rattle.clr_report.specs.declared.note.Cause.TheVariants.{Words, Refused, NoPath, ReadFault, Absent, WriteFault, TooLong, Cells, Memory}
+use Rattle.clr_top.specs.Plans.{OfPlan}
 use Rattle.clr_top.specs.declared.ending.Ending.{Ending}
 use Rattle.clr_top.specs.declared.ending.Ending.TheVariants.{By, NotYet}
 use Rattle.clr_top.specs.declared.ending.Word.{Word}
@@ -141,22 +139,10 @@ planned held words = season_for held (asked_plan words)
 
 -- ---- what is reported
 
--- The first path that obeys, in the order of lists, with its low and its high value: between them lies what the path earns
--- in expectation, and they are at most a unit apart for each store and week.
-pub record IsPlan (season : Season) (path : List ℕ) (low high : ℤ) : Type 0 where
-  pub first : IsFirstObeying season.rules path
-  pub least : low ≡ path_low season path
-  pub most : high ≡ path_high season path
-  pub interval : IsInterval season path low high
-
--- something holds of the text of the report on a season's plan
-abbrev pub OfPlan : Season → (List ℕ → Type 0) → Type 0
-OfPlan season Holds = (path : List ℕ) × (low : ℤ) × (high : ℤ) × IsPlan season path low high × Holds (plan_text season path low high)
-
 -- A plan is asked, its folder reads to a season, and something holds of the text of the report on its plan.
 abbrev pub Reports : Option Files → List (List ℕ) → (List ℕ → Type 0) → Type 0
 Reports files words Holds =
-    (ask : Ask) × (season : Season) × (asked_plan words ≡ Ok ask) × IfSome files (λ held. season_in held ask.folder ≡ Ok season) × IsSeason season × OfPlan season Holds
+    (ask : Ask) × (season : Season) × (asked_plan words ≡ Ok ask) × IfSome files (λ held. season_in held ask.folder ≡ Ok season) × IsSeason season × OfPlan season ask Holds
 
 -- a front of the bytes was added
 abbrev pub AddsFront : Option (List ℕ) → Option (List ℕ) → List ℕ → Type 0

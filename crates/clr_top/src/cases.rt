@@ -26,7 +26,7 @@ pub(crate) const SMALLEST: Files<'static> = Files {
 };
 
 pub(crate) const SMALLEST_REPORT: &[u8] =
-    b"season 1 stores 1 weeks 1 rungs base 4\npath 1\nprices 10.00\nrevenue 8.00000000 8.00000000\n";
+    b"season 1 stores 1 weeks 1 rungs base 4\npath 1\nprices 10.00\nrevenue 8.00000000 8.00000000\nbest yes\nbound 8.00000000 step 0\ngap 0.00000000\nexact 8.00000000 8.00000000 first 1\n";
 
 // One store, two weeks, two rungs: on the first rung nothing or one unit is asked for in each week.
 pub(crate) const TWO_WEEKS: Files<'static> = Files {
@@ -125,10 +125,19 @@ pub(crate) fn run_on<H: Shelf>(
     })
 }
 
+// What the words ask of files in memory.
+pub(crate) fn asked_of(
+    alloc: Global,
+    words: &[&str],
+    files: Files<'_>,
+) -> Result<Answer, AllocError> {
+    let mut shelf = MemoryShelf::new(held(alloc, files, 0)?, 16, Vec::new(alloc));
+    run_on(alloc, words, &mut shelf, &[])
+}
+
 // The plan of files in memory.
 pub(crate) fn planned(alloc: Global, files: Files<'_>) -> Result<Answer, AllocError> {
-    let mut shelf = MemoryShelf::new(held(alloc, files, 0)?, 16, Vec::new(alloc));
-    run_on(alloc, &["plan", "f"], &mut shelf, &[])
+    asked_of(alloc, &["plan", "f"], files)
 }
 
 // The plan of the same files in a real folder, which is there.

@@ -2,8 +2,8 @@
 ghost use Rattle.std.specs.Prelude.{◌≤◌};
 
 use crate::cases::{
-    Answer, Files, SMALLEST, SMALLEST_REPORT, held, list_of, planned, planned_on_disk, run_on,
-    words_of,
+    Answer, Files, SMALLEST, SMALLEST_REPORT, asked_of, held, list_of, planned, planned_on_disk,
+    run_on, words_of,
 };
 use crate::ending::Status;
 use crate::program::run;
@@ -165,14 +165,13 @@ fn cells_are_counted(rt: HostRuntime) -> Result<(), Fail> {
             demand: &demand,
             ..SMALLEST
         };
-        let answer = planned(alloc, files)?;
+        let words = ["plan", "f", "--steps", "1", "--nodes", "0"];
+        let answer = asked_of(alloc, &words, files)?;
         assert!(rt; answer.notes(Status::Limit, "limit: cells 16004304") != fits);
         assert!(rt;
-            answer
-                .out
-                .bytes()
-                .ends_with(b"revenue 2094.00000000 2094.00000000\n")
-                == fits
+            answer.out.bytes().ends_with(
+                b"revenue 2094.00000000 2094.00000000\nbest open\nbound 2094.00000000 step 0\ngap 0.00000000\n"
+            ) == fits
         );
     }
     Ok(())
@@ -198,7 +197,7 @@ fn each_call_fails_once(rt: HostRuntime) -> Result<(), Fail> {
         );
         assert!(rt; answer.reports(SMALLEST_REPORT) != failed, "shelf {fail}");
     }
-    for fail in 1..=7 {
+    for fail in 1..=12 {
         let mut shelf = MemoryShelf::new(held(alloc, SMALLEST, 0)?, 1000, Vec::new(alloc));
         let answer = run_on(alloc, &["plan", "f"], &mut shelf, &[fail])?;
         let stands = (16 * (fail as usize - 1)).min(SMALLEST_REPORT.len());
@@ -246,7 +245,7 @@ fn words_are_read(rt: HostRuntime) -> Result<(), Fail> {
         assert!(rt; answer.notes(status, note), "{note}");
     }
     let words = [
-        "plan", "--steps", "3", "f", "--step=2", "--nodes", "0", "--seed", "7",
+        "plan", "--steps", "3", "f", "--step=2", "--nodes", "1", "--seed", "7",
     ];
     let mut shelf = MemoryShelf::new(held(alloc, SMALLEST, 0)?, 16, Vec::new(alloc));
     let answer = run_on(alloc, &words, &mut shelf, &[])?;

@@ -6,6 +6,7 @@
 #[cfg(test)]
 mod cases;
 mod ending;
+mod exact;
 #[cfg(test)]
 mod faults;
 #[cfg(test)]

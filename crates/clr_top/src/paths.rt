@@ -1,5 +1,5 @@
 // Rules and calendars: which path is printed, or that there is none; and chains of many stores.
-use crate::cases::{Files, SMALLEST, planned};
+use crate::cases::{Files, SMALLEST, asked_of, planned};
 use crate::ending::Status;
 use std::alloc::{AllocError, Global};
 use std::test::Fail;
@@ -14,40 +14,51 @@ const THREE: Files<'static> = Files {
 };
 
 // Further rules and the rows of the calendar, with the path and the revenue.
-const PATHS: [(&[u8], &[u8], &str); 16] = [
+const PATHS: [(&[u8], &[u8], &str); 18] = [
     (
         b"{\"weeks\":3,\"base\":1}",
         b"week,from,to,frozen\n",
-        "path 1 1 1\nprices 10.00 10.00 10.00\nrevenue 10.00000000 10.00000000\n",
+        "path 1 2 3\nprices 10.00 8.00 5.00\nrevenue 23.00000000 23.00000000\nbest yes\nbound 23.00000000 step 0\ngap 0.00000000\nexact 23.00000000 23.00000000 first 1\n",
+    ),
+    // Two markdowns at least two weeks apart; one markdown.
+    (
+        b"{\"weeks\":3,\"base\":1,\"spacing\":2}",
+        b"",
+        "path 2 2 3\nprices 8.00 8.00 5.00\nrevenue 21.00000000 21.00000000\nbest yes\nbound 21.00000000 step 0\ngap 0.00000000\nexact 21.00000000 21.00000000 first 2\n",
+    ),
+    (
+        b"{\"weeks\":3,\"base\":1,\"markdowns\":1}",
+        b"",
+        "path 1 3 3\nprices 10.00 5.00 5.00\nrevenue 20.00000000 20.00000000\nbest yes\nbound 20.00000000 step 0\ngap 0.00000000\nexact 20.00000000 20.00000000 first 1\n",
     ),
     // One markdown, which must be the one of the second week.
     (
         b"{\"weeks\":3,\"base\":1,\"markdowns\":1,\"calendar\":true}",
         b"week,from,to,frozen\n2,2,12,0\n3,3,12,0\n",
-        "path 1 3 3\nprices 10.00 5.00 5.00\nrevenue 20.00000000 20.00000000\n",
+        "path 1 3 3\nprices 10.00 5.00 5.00\nrevenue 20.00000000 20.00000000\nbest yes\nbound 20.00000000 step 0\ngap 0.00000000\nexact 20.00000000 20.00000000 first 1\n",
     ),
     // Two markdowns two weeks apart.
     (
         b"{\"weeks\":3,\"base\":1,\"spacing\":2,\"calendar\":true}",
         b"week,from,to,frozen\n3,3,12,0\n2,2,12,0\n",
-        "path 1 3 3\nprices 10.00 5.00 5.00\nrevenue 20.00000000 20.00000000\n",
+        "path 2 2 3\nprices 8.00 8.00 5.00\nrevenue 21.00000000 21.00000000\nbest yes\nbound 21.00000000 step 0\ngap 0.00000000\nexact 21.00000000 21.00000000 first 2\n",
     ),
     (
         b"{\"weeks\":3,\"base\":1,\"spacing\":2,\"calendar\":true}",
         b"week,from,to,frozen\n1,2,12,0\n3,3,12,0\n",
-        "path 2 2 3\nprices 8.00 8.00 5.00\nrevenue 21.00000000 21.00000000\n",
+        "path 2 2 3\nprices 8.00 8.00 5.00\nrevenue 21.00000000 21.00000000\nbest yes\nbound 21.00000000 step 0\ngap 0.00000000\nexact 21.00000000 21.00000000 first 2\n",
     ),
     // A spacing that ends past the season.
     (
         b"{\"weeks\":3,\"base\":1,\"spacing\":12,\"calendar\":true}",
         b"week,from,to,frozen\n3,2,12,0\n",
-        "path 1 1 2\nprices 10.00 10.00 8.00\nrevenue 10.00000000 10.00000000\n",
+        "path 1 3 3\nprices 10.00 5.00 5.00\nrevenue 20.00000000 20.00000000\nbest yes\nbound 20.00000000 step 0\ngap 0.00000000\nexact 20.00000000 20.00000000 first 1\n",
     ),
     // A window that ends past the last rung, and one that begins there.
     (
         b"{\"weeks\":3,\"base\":1,\"calendar\":true}",
         b"week,from,to,frozen\n2,3,12,0\n",
-        "path 1 3 3\nprices 10.00 5.00 5.00\nrevenue 20.00000000 20.00000000\n",
+        "path 1 3 3\nprices 10.00 5.00 5.00\nrevenue 20.00000000 20.00000000\nbest yes\nbound 20.00000000 step 0\ngap 0.00000000\nexact 20.00000000 20.00000000 first 1\n",
     ),
     (
         b"{\"weeks\":3,\"base\":1,\"calendar\":true}",
@@ -58,7 +69,7 @@ const PATHS: [(&[u8], &[u8], &str); 16] = [
     (
         b"{\"weeks\":3,\"base\":1,\"calendar\":true}",
         b"week,from,to,frozen\n3,2,2,1\n",
-        "path 1 2 2\nprices 10.00 8.00 8.00\nrevenue 18.00000000 18.00000000\n",
+        "path 1 2 2\nprices 10.00 8.00 8.00\nrevenue 18.00000000 18.00000000\nbest yes\nbound 18.00000000 step 0\ngap 0.00000000\nexact 18.00000000 18.00000000 first 1\n",
     ),
     (
         b"{\"weeks\":3,\"base\":1,\"calendar\":true}",
@@ -69,7 +80,7 @@ const PATHS: [(&[u8], &[u8], &str); 16] = [
     (
         b"{\"weeks\":3,\"base\":1,\"markdowns\":0,\"calendar\":true}",
         b"week,from,to,frozen\n2,1,12,0\n",
-        "path 1 1 1\nprices 10.00 10.00 10.00\nrevenue 10.00000000 10.00000000\n",
+        "path 1 1 1\nprices 10.00 10.00 10.00\nrevenue 10.00000000 10.00000000\nbest yes\nbound 10.00000000 step 0\ngap 0.00000000\nexact 10.00000000 10.00000000 first 1\n",
     ),
     (
         b"{\"weeks\":3,\"base\":1,\"markdowns\":0,\"calendar\":true}",
@@ -80,7 +91,7 @@ const PATHS: [(&[u8], &[u8], &str); 16] = [
     (
         b"{\"weeks\":3,\"base\":1,\"first_cut\":20,\"calendar\":true}",
         b"week,from,to,frozen\n2,2,12,0\n",
-        "path 1 2 2\nprices 10.00 8.00 8.00\nrevenue 18.00000000 18.00000000\n",
+        "path 1 2 3\nprices 10.00 8.00 5.00\nrevenue 23.00000000 23.00000000\nbest yes\nbound 23.00000000 step 0\ngap 0.00000000\nexact 23.00000000 23.00000000 first 1\n",
     ),
     (
         b"{\"weeks\":3,\"base\":1,\"first_cut\":19,\"calendar\":true}",
@@ -90,12 +101,12 @@ const PATHS: [(&[u8], &[u8], &str); 16] = [
     (
         b"{\"weeks\":3,\"base\":1,\"first_cut\":20,\"calendar\":true}",
         b"week,from,to,frozen\n3,3,12,0\n",
-        "path 1 2 3\nprices 10.00 8.00 5.00\nrevenue 23.00000000 23.00000000\n",
+        "path 1 2 3\nprices 10.00 8.00 5.00\nrevenue 23.00000000 23.00000000\nbest yes\nbound 23.00000000 step 0\ngap 0.00000000\nexact 23.00000000 23.00000000 first 1\n",
     ),
     (
         b"{\"weeks\":3,\"base\":1,\"first_cut\":10}",
         b"",
-        "path 1 1 1\nprices 10.00 10.00 10.00\nrevenue 10.00000000 10.00000000\n",
+        "path 1 1 1\nprices 10.00 10.00 10.00\nrevenue 10.00000000 10.00000000\nbest yes\nbound 10.00000000 step 0\ngap 0.00000000\nexact 10.00000000 10.00000000 first 1\n",
     ),
     // A window that shuts what the week before opened.
     (
@@ -125,6 +136,42 @@ fn paths_obey(rt: HostRuntime) -> Result<(), Fail> {
     Ok(())
 }
 
+// The first paths that the search looks at, by their number: there are 13 tight prefixes, and the fifth is the best path.
+const NODES: [(u32, &str); 4] = [
+    (
+        3,
+        "path 1 3 3\nprices 10.00 5.00 5.00\nrevenue 20.00000000 20.00000000\nbest open\nbound 23.00000000 step 0\ngap 3.00000000\nexact 23.00000000 23.00000000 first 1\n",
+    ),
+    (
+        5,
+        "path 1 2 3\nprices 10.00 8.00 5.00\nrevenue 23.00000000 23.00000000\nbest open\nbound 23.00000000 step 0\ngap 0.00000000\nexact 23.00000000 23.00000000 first 1\n",
+    ),
+    (
+        12,
+        "path 1 2 3\nprices 10.00 8.00 5.00\nrevenue 23.00000000 23.00000000\nbest open\nbound 23.00000000 step 0\ngap 0.00000000\nexact 23.00000000 23.00000000 first 1\n",
+    ),
+    (
+        13,
+        "path 1 2 3\nprices 10.00 8.00 5.00\nrevenue 23.00000000 23.00000000\nbest yes\nbound 23.00000000 step 0\ngap 0.00000000\nexact 23.00000000 23.00000000 first 1\n",
+    ),
+];
+
+#[test]
+fn nodes_are_counted(rt: HostRuntime) -> Result<(), Fail> {
+    let alloc = rt.alloc();
+    let files = Files {
+        rules: b"{\"weeks\":3,\"base\":1}",
+        ..THREE
+    };
+    for (nodes, lines) in NODES {
+        let nodes = format!(in alloc; "{nodes}")?;
+        let answer = asked_of(alloc, &["plan", "f", "--nodes", nodes.as_str()], files)?;
+        assert!(rt; answer.status == Status::Ok, "{nodes}");
+        assert!(rt; answer.out.bytes().ends_with(lines.as_bytes()), "{nodes}");
+    }
+    Ok(())
+}
+
 // Two weeks and two rungs, with a calendar and a demand that is the same in each week on each rung.
 const TWO: Files<'static> = Files {
     rules: b"{\"weeks\":2,\"base\":1,\"calendar\":true}",
@@ -140,7 +187,7 @@ fn calendars_are_read(rt: HostRuntime) -> Result<(), Fail> {
     let first = planned(alloc, TWO)?;
     assert!(rt;
         first.reports(
-            b"season 1 stores 2 weeks 2 rungs base 1\npath 2 2\nprices 6.00 6.00\nrevenue 6.00000000 6.00000000\n"
+            b"season 1 stores 2 weeks 2 rungs base 1\npath 2 2\nprices 6.00 6.00\nrevenue 6.00000000 6.00000000\nbest yes\nbound 6.00000000 step 0\ngap 0.00000000\nexact 6.00000000 6.00000000 first 2\n"
         )
     );
     let shut = Files {
@@ -159,7 +206,7 @@ fn calendars_are_read(rt: HostRuntime) -> Result<(), Fail> {
     };
     assert!(rt;
         planned(alloc, costly)?.reports(
-            b"season 1 stores 1 weeks 2 rungs base 1\npath 2\nprices 6.00\nrevenue -3.00000000 -3.00000000\n"
+            b"season 1 stores 1 weeks 2 rungs base 1\npath 2\nprices 6.00\nrevenue -3.00000000 -3.00000000\nbest yes\nbound -3.00000000 step 0\ngap 0.00000000\nexact -3.00000000 -3.00000000 first 2\n"
         )
     );
     let order = Files {
@@ -202,9 +249,9 @@ fn chains_fit_their_cells(rt: HostRuntime) -> Result<(), Fail> {
     let alloc = rt.alloc();
     // 5 * 5 * 1 * 10 cells for each of a store's stocks.
     let chains = [
-        (16, 1999, "revenue 319.84000000 319.84000000\n"),
-        (16, 2000, "revenue 319.85000000 319.85000000\n"),
-        (32, 1999, "revenue 639.68000000 639.68000000\n"),
+        (16, 1999, "319.84000000"),
+        (16, 2000, "319.85000000"),
+        (32, 1999, "639.68000000"),
         (32, 2000, ""),
     ];
     for (stores, first, revenue) in chains {
@@ -224,8 +271,11 @@ fn chains_fit_their_cells(rt: HostRuntime) -> Result<(), Fail> {
                 "{stores}"
             );
         } else {
+            let lines = format!(in alloc;
+                "path 1 1 1 1\nprices 5.00 5.00 5.00 5.00\nrevenue {revenue} {revenue}\nbest yes\nbound {revenue} step 0\ngap 0.00000000\n"
+            )?;
             assert!(rt;
-                answer.out.bytes().ends_with(revenue.as_bytes()),
+                answer.out.bytes().ends_with(lines.as_bytes()),
                 "{stores} {first}"
             );
         }
@@ -261,8 +311,9 @@ fn ordinary_demand(alloc: Global) -> Result<Vec<u8>, AllocError> {
     Ok(text)
 }
 
-// In each store the first price sells 1.5 units in each of 4 weeks and 0.5 in each of 8, which earn 45.00 more than the
-// salvage of 5.00 a unit, and the salvage of all 40 units is 200.00: 650.00, 24 times.
+// In each store the first price sells 1.5 units in each of 4 weeks, and 35.00 sells 1.5 in each of 8, which earn 45.00 and 30.00
+// a unit more than the salvage of 5.00, and the salvage of all 40 units is 200.00: 830.00, 24 times. The first markdown to 35.00
+// is just allowed.
 #[test]
 fn the_ordinary_chain_is_planned(rt: HostRuntime) -> Result<(), Fail> {
     let alloc = rt.alloc();
@@ -281,7 +332,7 @@ fn the_ordinary_chain_is_planned(rt: HostRuntime) -> Result<(), Fail> {
     let answer = planned(alloc, files)?;
     assert!(rt;
         answer.reports(
-            b"season 24 stores 12 weeks 6 rungs base 20\npath 1 1 1 1 1 1 1 1 1 1 1 1\nprices 50.00 50.00 50.00 50.00 50.00 50.00 50.00 50.00 50.00 50.00 50.00 50.00\nrevenue 15600.00000000 15600.00000000\n"
+            b"season 24 stores 12 weeks 6 rungs base 20\npath 1 1 1 1 4 4 4 4 4 4 4 4\nprices 50.00 50.00 50.00 50.00 35.00 35.00 35.00 35.00 35.00 35.00 35.00 35.00\nrevenue 19920.00000000 19920.00000000\nbest yes\nbound 19920.00000000 step 0\ngap 0.00000000\n"
         )
     );
     Ok(())

@@ -8,7 +8,7 @@ ghost use Rattle.clr_report.specs.declared.note.Cause.{Cause};
 ghost use Rattle.clr_report.specs.declared.note.Doc.{Doc};
 ghost use Rattle.clr_season.specs.Reads.{season_in};
 ghost use Rattle.clr_season.specs.Season.{IsSeason};
-ghost use Rattle.clr_words.specs.Asked.{Ask, asked_of};
+ghost use Rattle.clr_words.specs.Asked.{IsAsk, ask_of, asked_of};
 ghost use Rattle.clr_top.specs.declared.ending.Ending.{Ending};
 ghost use Rattle.clr_top.specs.Runs.{AddsFront, AnswersPlan, Caused, Exactly, Notes, Reports, asked_plan, ending_by, planned, status_of};
 
@@ -23,7 +23,8 @@ use std::alloc::Global;
 // What the words ask, where they ask a plan without a certificate.
 #[tactic(auto, unfolding(crate::specs::Runs::asked_plan))]
 fn read_plan_words(alloc: Global, words: &[String]) -> Result<Asked, Ending>
-    ensures { AnswersPlan result (map string_bytes words.now) }
+    ensures answers { AnswersPlan result (map string_bytes words.now) }
+    ensures facts { IfOk result (λ asked. IsAsk (ask_of asked)) }
 {
     let asked = match read_words(alloc, words) {
         Ok(asked) => asked,
@@ -67,10 +68,9 @@ fn unread(error: SeasonError) -> Ending
     }
 }
 
-// The season of the folder of which the words ask a plan.
-fn read_asked<H: Shelf>(alloc: Global, words: &[String], shelf: &mut H) -> Result<Season, Ending>
-    ensures season { IfOk result (λ s. (ask : Ask) × (asked_plan (map string_bytes words.now) ≡ Ok ask) × IfSome (H.files shelf.old) (λ held. season_in held ask.folder ≡ Ok s)) }
-    ensures facts { IfOk result (λ s. IsSeason s) }
+// The report of the plan that the words ask.
+fn report<H: Shelf>(alloc: Global, words: &[String], shelf: &mut H) -> Result<Vec<u8>, Ending>
+    ensures text { IfOk result (λ text. Reports (H.files shelf.old) (map string_bytes words.now) (λ told. text.items ≡ told)) }
     ensures caused { (ending : Ending) → IsErrOf result ending → (out_old out_new : ℕ) → Caused (H.files shelf.old) (map string_bytes words.now) (H.taken shelf.new) (H.faults shelf.old) (H.faults shelf.new) out_old out_new ending }
     ensures files { H.files shelf.new ≡ H.files shelf.old }
     ensures later { H.faults shelf.old ≤ H.faults shelf.new }
@@ -79,24 +79,11 @@ fn read_asked<H: Shelf>(alloc: Global, words: &[String], shelf: &mut H) -> Resul
         Ok(asked) => asked,
         Err(ending) => return Err(ending),
     };
-    match read_season(alloc, shelf, asked.folder.as_str()) {
-        Ok(season) => Ok(season),
-        Err(error) => Err(unread(error)),
-    }
-}
-
-// The report of the plan that the words ask.
-fn report<H: Shelf>(alloc: Global, words: &[String], shelf: &mut H) -> Result<Vec<u8>, Ending>
-    ensures text { IfOk result (λ text. Reports (H.files shelf.old) (map string_bytes words.now) (λ told. text.items ≡ told)) }
-    ensures caused { (ending : Ending) → IsErrOf result ending → (out_old out_new : ℕ) → Caused (H.files shelf.old) (map string_bytes words.now) (H.taken shelf.new) (H.faults shelf.old) (H.faults shelf.new) out_old out_new ending }
-    ensures files { H.files shelf.new ≡ H.files shelf.old }
-    ensures later { H.faults shelf.old ≤ H.faults shelf.new }
-{
-    let season = match read_asked(alloc, words, shelf) {
+    let season = match read_season(alloc, shelf, asked.folder.as_str()) {
         Ok(season) => season,
-        Err(ending) => return Err(ending),
+        Err(error) => return Err(unread(error)),
     };
-    match plan_season(alloc, &season) {
+    match plan_season(alloc, &season, &asked) {
         Ok(text) => Ok(text),
         Err(ending) => Err(ending),
     }
@@ -129,8 +116,10 @@ fn work<H: Shelf, O: Sink>(
 
 /// Does what the words ask; they are the words behind the program's name, read by `clap` as the command with the
 /// required JOB and FOLDER and the options `--steps`, `--step`, `--nodes`, `--cert` and `--seed`. `plan FOLDER` reads the
-/// season of the folder's files from the shelf and writes the first lines of the plan report of the first path that
-/// obeys. The numbers of the options have no effect yet, and the desk isn't used.
+/// season of the folder's files from the shelf and writes the plan report: of the bound over all policies that a descent of
+/// `--steps` steps of the size `--step` gives; of the path that a search of `--nodes` tight prefixes finds with the
+/// multipliers of that bound; and, where the season is small enough, of the table for the stocks of all stores. `--seed` has
+/// no effect on a plan, and the desk isn't used.
 ///
 /// The order of the answers is: `Words`; `NotYet` of another job, and then of a certificate; file by file (rules.json,
 /// calendar.csv where the rules say that there is one, ladder.csv, stock.csv, demand.csv) `ReadFault`, `Absent`, `Limit`
