@@ -3,10 +3,8 @@ ghost use Rattle.clr_rules.specs.LiveSummaries.{live_pairs};
 ghost use Rattle.clr_season.specs.Season.{IsSeason};
 ghost use Rattle.std.specs.Prelude.{◌≡◌};
 
-use crate::reads::choice_at;
+use crate::reads::{choice_at, table};
 use crate::seasons::{Files, season};
-use clr_joint::Joint;
-use clr_model::fits;
 use clr_rules::Live;
 use clr_season::Season;
 use std::alloc::{AllocError, Global};
@@ -182,10 +180,9 @@ fn opening(
     requires live { live.now ≡ live_pairs season.now.rules }
     requires facts { IsSeason season.now }
 {
-    if !live.any() || !fits(season) {
+    let Some(joint) = table(alloc, season, live)? else {
         return Ok(None);
-    }
-    let joint = Joint::build(alloc, season, live)?;
+    };
     let first = choice_at(season, live, &joint, 0, season.rules().start(), stocks);
     Ok(Some((joint.low(), joint.top(), first)))
 }

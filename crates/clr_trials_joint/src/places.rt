@@ -1,15 +1,7 @@
 // The values and the choices of a small season at each live summary and stock, worked by hand.
-ghost use Rattle.clr_joint.specs.Tables.{IsJointOf};
-ghost use Rattle.clr_rules.specs.LiveSummaries.{live_pairs};
-ghost use Rattle.std.specs.Prelude.{◌≡◌, IfOk, IfSome};
-
-use crate::reads::{choice_at, values_at};
+use crate::reads::{choice_at, table, values_at};
 use crate::seasons::{Files, season};
-use clr_joint::Joint;
-use clr_model::fits;
 use clr_rules::{Live, Summary};
-use clr_season::Season;
-use std::alloc::{AllocError, Global};
 use std::test::Fail;
 
 // On rung 1 nothing or one unit is asked for in each week; on rung 2 nothing in week 1, and two in week 2.
@@ -53,18 +45,6 @@ const PLACES: [(u32, Summary, u32, Option<u32>, i64); 15] = [
     (0, START, 1, Some(1), 750_000_000),
     (0, START, 2, Some(1), 1_150_000_000),
 ];
-
-// The table of a season, where some path obeys and it is small enough.
-fn table(alloc: Global, season: &Season, live: &Live) -> Result<Option<Joint>, AllocError>
-    requires live { live.now ≡ live_pairs season.now.rules }
-    ensures { IfOk result (λ some. IfSome some (λ joint. IsJointOf season.now joint)) }
-{
-    if live.any() && fits(season) {
-        Ok(Some(Joint::build(alloc, season, live)?))
-    } else {
-        Ok(None)
-    }
-}
 
 #[test]
 fn each_place_has_its_values_and_choice(rt: HostRuntime) -> Result<(), Fail> {

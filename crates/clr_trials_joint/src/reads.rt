@@ -1,14 +1,16 @@
-// What a table gives at a summary and a list of stocks, where the season has both.
+// The table of a season, and what it gives at a summary and a list of stocks, where the season has both.
 ghost use Rattle.clr_joint.specs.Tables.{IsJointOf};
 ghost use Rattle.clr_model.specs.Revenue.{full_stocks};
 ghost use Rattle.clr_model.specs.StoreValue.{AreStocks};
 ghost use Rattle.clr_rules.specs.LiveSummaries.{live_pairs};
 ghost use Rattle.clr_season.specs.Season.{IsSeason};
-ghost use Rattle.std.specs.Prelude.{◌≡◌, ℕ, ◌≤◌, get_or, length, IsTrue};
+ghost use Rattle.std.specs.Prelude.{◌≡◌, ℕ, ◌≤◌, get_or, length, IfOk, IfSome, IsTrue};
 
 use clr_joint::Joint;
+use clr_model::fits;
 use clr_rules::{Live, Summary};
 use clr_season::Season;
+use std::alloc::{AllocError, Global};
 
 // Whether no stock is greater than what its store opens with.
 fn are_held(season: &Season, stocks: &[u32]) -> bool
@@ -28,6 +30,19 @@ fn are_stocks(season: &Season, stocks: &[u32]) -> bool
     ensures { IsTrue result → AreStocks season.now stocks.now }
 {
     stocks.len() == season.stores() as usize && are_held(season, stocks)
+}
+
+/// The table of a season, where some path obeys and it is small enough.
+pub fn table(alloc: Global, season: &Season, live: &Live) -> Result<Option<Joint>, AllocError>
+    requires facts { IsSeason season.now }
+    requires live { live.now ≡ live_pairs season.now.rules }
+    ensures { IfOk result (λ some. IfSome some (λ joint. IsJointOf season.now joint)) }
+{
+    if live.any() && fits(season) {
+        Ok(Some(Joint::build(alloc, season, live)?))
+    } else {
+        Ok(None)
+    }
 }
 
 /// The two values.
