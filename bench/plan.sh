@@ -20,7 +20,7 @@ import sys
 import time
 
 program, folder = sys.argv[1:]
-best, runs = None, 20 if folder.endswith("ordinary") else 3
+best, runs = None, {"ordinary": 20, "deep": 1}.get(folder.rsplit("/", 1)[1], 3)
 for _ in range(runs):
     start = time.perf_counter()
     run = subprocess.run([program, "plan", folder], stdout=subprocess.PIPE, stderr=subprocess.PIPE, text=True)

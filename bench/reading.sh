@@ -2,7 +2,8 @@
 # How long the program reads: bench/reading.sh [PROGRAM [STORES [WORDS..]]]
 #
 # Makes a season of so many stores (64 where none is given), 52 weeks, 12 rungs and the base 100 in a
-# temporary folder, and runs `PROGRAM plan FOLDER WORDS..` on it three times. Its demand.csv has as many
+# temporary folder, and runs `PROGRAM plan FOLDER WORDS..` on it three times (where none are given, with
+# `--steps 0 --nodes 0`). Its demand.csv has as many
 # demands for each store, week and rung as bring it near 30 MB, at most 201. The stocks are of one
 # unit, so that nearly all of the time goes into reading and judging the files.
 #
@@ -13,6 +14,7 @@ root="$(cd "$(dirname "${BASH_SOURCE[0]}")/.." && pwd)"
 program="${1:-$root/crates/clr_top/out/clr_top}"
 stores="${2:-64}"
 words=("${@:3}")
+[ "${#words[@]}" -gt 0 ] || words=(--steps 0 --nodes 0)
 [ -x "$program" ] || { echo "no program at $program: run ./clearance once, or give its path" >&2; exit 1; }
 folder="$(mktemp -d)"
 trap 'rm -rf "$folder"' EXIT

@@ -61,18 +61,17 @@ def joint(folder):
 
 
 def search(folder):
-    """Stores that want different rungs, so that the bound is loose and more than 100,000 prefixes are tight."""
-    stores, weeks, rungs = 6, 16, 6
+    """Demand that asks for one rung after another, so that paths with one markdown are poor, and more than 100,000 prefixes
+    are tight."""
+    stores, weeks, rungs = 6, 20, 6
 
     def weights(store, week, rung):
-        if store % 2 == 0:
-            first = 1
-        else:
-            first = (2 * (rung - 1) + week % 2) // 2
-        return [(first, 25), (first + 1, 50), (first + 2, 25)]
+        if rung >= 1 + (week - 1) * rungs // weeks:
+            return [(1, 25), (2, 50), (3, 25)]
+        return [(0, 50), (1, 50)]
 
     rules = {"weeks": weeks, "base": 100, "markdowns": 5}
-    write(folder, rules, [60 - 6 * rung for rung in range(rungs)], [(30, "5.00")] * stores, weights)
+    write(folder, rules, [60 - 6 * rung for rung in range(rungs)], [(40, "5.00")] * stores, weights)
 
 
 if __name__ == "__main__":
