@@ -36,8 +36,8 @@ fn cells_of_stocks(season: &Season) -> u64
     (weeks + 1) * rungs * counts * u64::from(season.rules().spacing())
 }
 
-// The number of lists of stocks.
-fn lists_of_stocks(season: &Season) -> u64
+/// The number of lists of stocks, one for each store and from 0 to what it opens with. There are at most four stores.
+pub fn lists_of_stocks(season: &Season) -> u64
     requires { length season.now.stores ≤ most_joint_stores }
     ensures value { result ≡ stock_lists season.now.stores }
     ensures range { result ≤ 16032024008001 }

@@ -16,7 +16,7 @@ pub use joint_laws::{
     joint_covers_top, joint_floor_reached, joint_sum_by_stores, joint_table_enclosed, joint_tops,
     joint_value_by_summary, joint_values_close,
 };
-pub use joint_limits::fits;
+pub use joint_limits::{fits, lists_of_stocks};
 pub use laws::{
     chances_sum, markdowns_counted, one_store_split_off, one_week_split_off, path_enclosed,
     path_numbers_enclose, sold_in_a_week,

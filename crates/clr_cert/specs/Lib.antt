@@ -1,0 +1,9 @@
+pub mod Entries
+pub mod Lines
+pub mod Numbers
+pub mod Places
+pub mod Steps
+pub mod Writing
+pub mod Reading
+pub mod Conditions
+pub mod Accepts

@@ -1,0 +1,13 @@
+pub mod Fields
+pub mod Places
+pub mod Parts
+pub mod Walks
+pub mod Enclosures
+pub mod Sizes
+pub mod StockSums
+pub mod Rows
+pub mod StoreSums
+pub mod Folds
+pub mod Ends
+pub mod Tests
+pub mod PolicyWeeks

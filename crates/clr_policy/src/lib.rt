@@ -1,0 +1,16 @@
+//! Policy files, and what a policy earns.
+//!
+//! A policy chooses each week's rung by the stocks that the stores have left. Stores, weeks, rungs and branches are
+//! counted from 1, stocks from 0. Values are in units, of which a cent has 10^6.
+#![tactic(auto)]
+
+mod branches;
+mod judged;
+mod policy;
+mod policy_file;
+mod stock_lists;
+mod values;
+
+pub use judged::{JudgeError, judge, policies_valued};
+pub use policy::{Policy, PolicyError, objects};
+pub use policy_file::read_policy;
