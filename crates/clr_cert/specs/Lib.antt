@@ -7,3 +7,4 @@ pub mod Writing
 pub mod Reading
 pub mod Conditions
 pub mod Accepts
+pub mod Planned
