@@ -1,3 +1,4 @@
+pub mod Among
 pub mod Counting
 pub mod NumberTexts
 pub mod OpeningSums

@@ -42,7 +42,7 @@ at_least sum value now base p q =
     let scaled : (value *ℤ pos base) ≤ℤ (now *ℤ pos base) = scale_le_right base value now q in
     omega (arith, linear)
 
-tops_cover : (season : Season) → IsSeason season → IsJointCover season (joint_value_at ceil season)
+pub tops_cover : (season : Season) → IsSeason season → IsJointCover season (joint_value_at ceil season)
 tops_cover season ok = record {
   week = λ prefix rung stocks held live.
       let long : length (prefix ++ rung ∷ []) ≡ suc (length prefix) = length_more prefix rung in
@@ -77,7 +77,7 @@ best_live season prefix f live short =
     (λ e. All-live_rungs season.rules prefix (λ _. ⊥) rung next (subst (AllByRecursion (λ _. ⊥)) (sym e) tt))
     (All-filter (λ r. is_live season.rules (prefix ++ r ∷ [])) (rungs season.rules))
 
-table_reaches : (season : Season) → IsSeason season → IsJointFloor season (joint_rung_at season) (joint_value_at floor season)
+pub table_reaches : (season : Season) → IsSeason season → IsJointFloor season (joint_rung_at season) (joint_value_at floor season)
 table_reaches season ok = record {
   live = λ prefix stocks held live short. best_live season prefix (gives floor season (season.rules.weeks - suc (length prefix)) prefix stocks) live short;
   week = λ prefix stocks held live short.

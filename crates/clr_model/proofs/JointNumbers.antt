@@ -49,15 +49,15 @@ joint_covers_top_lem season v ok cover prefix weeks stocks tree long held abides
 
 -- ---- a node over kids that abide
 
-All-append_in : {X : Type 0} (P : X → Type 0) (xs ys : List X) → AllByRecursion P xs → AllByRecursion P ys → AllByRecursion P (xs ++ ys)
+pub All-append_in : {X : Type 0} (P : X → Type 0) (xs ys : List X) → AllByRecursion P xs → AllByRecursion P ys → AllByRecursion P (xs ++ ys)
 All-append_in P [] ys a b = b
 All-append_in P (x ∷ xs) ys a b = (a.0, All-append_in P xs ys a.1 b)
 
-All-map_in : {X Y : Type 0} (P : Y → Type 0) (h : X → Y) (xs : List X) → AllByRecursion (λ x. P (h x)) xs → AllByRecursion P (map h xs)
+pub All-map_in : {X Y : Type 0} (P : Y → Type 0) (h : X → Y) (xs : List X) → AllByRecursion (λ x. P (h x)) xs → AllByRecursion P (map h xs)
 All-map_in P h [] a = tt
 All-map_in P h (x ∷ xs) a = (a.0, All-map_in P h xs a.1)
 
-All-flat_map_in : {X Y : Type 0} (P : Y → Type 0) (h : X → List Y) (xs : List X) → AllByRecursion (λ x. AllByRecursion P (h x)) xs → AllByRecursion P (flat_map h xs)
+pub All-flat_map_in : {X Y : Type 0} (P : Y → Type 0) (h : X → List Y) (xs : List X) → AllByRecursion (λ x. AllByRecursion P (h x)) xs → AllByRecursion P (flat_map h xs)
 All-flat_map_in P h [] a = tt
 All-flat_map_in P h (x ∷ xs) a = All-append_in P (h x) (flat_map h xs) a.0 (All-flat_map_in P h xs a.1)
 
