@@ -1,14 +1,19 @@
-"""Makes the seasons of bench/plan.sh, one folder each: python3 bench/seasons.py FOLDER"""
+"""Makes the seasons of the benchmarks. Those of bench/plan.sh, one folder each: python3 bench/seasons.py FOLDER"""
 
 import os
 import sys
+
+
+def store_name(index):
+    """The name of a store by its index, from 0."""
+    return f"s{index + 1:02}"
 
 
 def write(folder, rules, prices, stocks, weights):
     """A season: its rules, its prices, (units, salvage) of each store, and a list of (demand, weight) for a store, week and
     rung, each counted from 1."""
     os.makedirs(folder)
-    names = [f"s{store + 1:02}" for store in range(len(stocks))]
+    names = [store_name(index) for index in range(len(stocks))]
     rows = ["store,week,rung,units,weight\n"]
     for store, name in enumerate(names, 1):
         for week in range(1, rules["weeks"] + 1):
@@ -72,6 +77,31 @@ def search(folder):
 
     rules = {"weeks": weeks, "base": 100, "markdowns": 5}
     write(folder, rules, [60 - 6 * rung for rung in range(rungs)], [(40, "5.00")] * stores, weights)
+
+
+def written(folder):
+    """Near 16,000,000 cells, of which five of six stand in a certificate, with some fifteen digits each: some 200 MB."""
+    stores, weeks, units = 64, 52, 785
+
+    def weights(store, week, rung):
+        first = 8 + 2 * rung + (week + store) % 3
+        return [(first + more, weight) for more, weight in enumerate((10, 20, 40, 20, 10))]
+
+    rules = {"weeks": weeks, "base": 100, "markdowns": 1}
+    write(folder, rules, [5000, 4500, 4000], [(units, "5.00")] * stores, weights)
+
+
+def judged(folder, weeks, rungs, stores, units, greatest):
+    """A season for a policy to be judged: each store may be asked for anything from nothing to the greatest demand, as evenly as
+    can be."""
+    base = 100
+
+    def weights(store, week, rung):
+        demands = greatest + 1
+        return [(units, base // demands + (units < base % demands)) for units in range(demands)]
+
+    rules = {"weeks": weeks, "base": base}
+    write(folder, rules, [60 - 4 * rung for rung in range(rungs)], [(units, "5.00")] * stores, weights)
 
 
 if __name__ == "__main__":
