@@ -1,18 +1,19 @@
 // What policies earn, and what stands against them. Values are in units, of which a cent has 10^6.
 ghost use Rattle.std.specs.Prelude.{◌≤◌, length};
 
-use crate::seasons::{RELABELLED, STEADY_OR_LATE, Texts, season_of};
+use crate::seasons::{RELABELLED, STEADY_OR_LATE, Texts, season_of, season_of_many};
 use clr_num::{Down, Up};
-use clr_policy::{JudgeError, PolicyError, judge, read_policy};
+use clr_policy::{JudgeError, PolicyError, judge, objects, read_policy};
 use clr_rules::Rule;
 use clr_season::Season;
 use std::alloc::Global;
 use std::test::Fail;
 
-// A season, a policy file, and the policy's value rounded down and rounded up.
+// A season, a policy file, the number of the policy's rungs and tests, and its value rounded down and rounded up.
 struct Case {
-    season: Texts,
+    season: Texts<'static>,
     policy: &'static str,
+    objects: u64,
     low: Result<i128, JudgeError>,
     high: Result<i128, JudgeError>,
 }
@@ -33,14 +34,14 @@ const SECOND_RISES: Result<i128, JudgeError> = Err(JudgeError::Rule {
 });
 
 // Thirds: nothing with weight 1 and a unit at 10.00 with weight 2; a unit left is worth 2.00.
-const ONE_STORE_IN_THIRDS: Texts = Texts {
+const ONE_STORE_IN_THIRDS: Texts<'static> = Texts {
     rules: "{\"weeks\":1,\"base\":3}",
     ladder: "rung,price\n1,10.00\n",
     stock: "store,units,salvage\na,1,2.00\n",
     demand: "store,week,rung,units,weight\na,1,1,0,1\na,1,1,1,2\n",
 };
 
-const TWO_STORES_IN_THIRDS: Texts = Texts {
+const TWO_STORES_IN_THIRDS: Texts<'static> = Texts {
     rules: "{\"weeks\":1,\"base\":3}",
     ladder: "rung,price\n1,10.00\n",
     stock: "store,units,salvage\na,1,2.00\nb,1,2.00\n",
@@ -48,39 +49,33 @@ const TWO_STORES_IN_THIRDS: Texts = Texts {
 };
 
 // Nothing is asked for.
-const THREE_OF_A_MILLION: Texts = Texts {
+const THREE_OF_A_MILLION: Texts<'static> = Texts {
     rules: "{\"weeks\":1,\"base\":1000000}",
     ladder: "rung,price\n1,10.00\n",
     stock: "store,units,salvage\na,1,0.01\nb,1,0\nc,1,0\n",
     demand: "store,week,rung,units,weight\na,1,1,0,1000000\nb,1,1,0,1000000\nc,1,1,0,1000000\n",
 };
 
-const FOUR_OF_A_MILLION: Texts = Texts {
+const FOUR_OF_A_MILLION: Texts<'static> = Texts {
     rules: "{\"weeks\":1,\"base\":1000000}",
     ladder: "rung,price\n1,10.00\n",
     stock: "store,units,salvage\na,1,0\nb,1,0\nc,1,0\nd,1,0\n",
     demand: "store,week,rung,units,weight\na,1,1,0,1000000\nb,1,1,0,1000000\nc,1,1,0,1000000\nd,1,1,0,1000000\n",
 };
 
-const THREE_LARGE: Texts = Texts {
+const THREE_LARGE: Texts<'static> = Texts {
     rules: "{\"weeks\":1,\"base\":1}",
     ladder: "rung,price\n1,10.00\n",
     stock: "store,units,salvage\na,1999,0\nb,1999,0\nc,1999,0\n",
     demand: "store,week,rung,units,weight\na,1,1,0,1\nb,1,1,0,1\nc,1,1,0,1\n",
 };
 
-const SIX_LARGE: Texts = Texts {
-    rules: "{\"weeks\":1,\"base\":1}",
-    ladder: "rung,price\n1,10.00\n",
-    stock: "store,units,salvage\na,1999,0\nb,1999,0\nc,1999,0\nd,1999,0\ne,1999,0\nf,1999,0\n",
-    demand: "store,week,rung,units,weight\na,1,1,0,1\nb,1,1,0,1\nc,1,1,0,1\nd,1,1,0,1\ne,1,1,0,1\nf,1,1,0,1\n",
-};
-
-const CASES: [Case; 10] = [
+const CASES: [Case; 9] = [
     // Week 1 leaves two units, which earn 8.00, or one for 10.00 and 5.00 of the other: (8.00 + 15.00) / 2
     Case {
         season: STEADY_OR_LATE,
         policy: CUT_WHERE_MUCH_IS_LEFT,
+        objects: 4,
         low: Ok(1_150_000_000),
         high: Ok(1_150_000_000),
     },
@@ -88,12 +83,14 @@ const CASES: [Case; 10] = [
     Case {
         season: RELABELLED,
         policy: CUT_WHERE_MUCH_IS_LEFT,
+        objects: 4,
         low: Ok(1_125_000_000),
         high: Ok(1_125_000_000),
     },
     Case {
         season: STEADY_OR_LATE,
         policy: RISES_WHERE_MUCH_IS_LEFT,
+        objects: 4,
         low: SECOND_RISES,
         high: SECOND_RISES,
     },
@@ -101,6 +98,7 @@ const CASES: [Case; 10] = [
     Case {
         season: STEADY_OR_LATE,
         policy: RISES_NOWHERE,
+        objects: 4,
         low: SECOND_RISES,
         high: SECOND_RISES,
     },
@@ -108,6 +106,7 @@ const CASES: [Case; 10] = [
     Case {
         season: ONE_STORE_IN_THIRDS,
         policy: "{\"rung\":1}",
+        objects: 1,
         low: Ok(733_333_333),
         high: Ok(733_333_334),
     },
@@ -115,6 +114,7 @@ const CASES: [Case; 10] = [
     Case {
         season: TWO_STORES_IN_THIRDS,
         policy: "{\"rung\":1}",
+        objects: 1,
         low: Ok(1_466_666_666),
         high: Ok(1_466_666_667),
     },
@@ -122,50 +122,45 @@ const CASES: [Case; 10] = [
     Case {
         season: THREE_OF_A_MILLION,
         policy: "{\"rung\":1}",
+        objects: 1,
         low: Ok(1_000_000),
         high: Ok(1_000_000),
     },
     Case {
         season: FOUR_OF_A_MILLION,
         policy: "{\"rung\":1}",
+        objects: 1,
         low: Err(JudgeError::Base),
         high: Err(JudgeError::Base),
     },
-    // One object times 2000^3, and 2000^6, which is held.
+    // One object times 2000^3.
     Case {
         season: THREE_LARGE,
         policy: "{\"rung\":1}",
+        objects: 1,
         low: Err(JudgeError::Size {
             found: 8_000_000_000,
         }),
         high: Err(JudgeError::Size {
             found: 8_000_000_000,
-        }),
-    },
-    Case {
-        season: SIX_LARGE,
-        policy: "{\"rung\":1}",
-        low: Err(JudgeError::Size {
-            found: 1_000_000_000_000_000_000,
-        }),
-        high: Err(JudgeError::Size {
-            found: 1_000_000_000_000_000_000,
         }),
     },
 ];
 
-// A policy's value rounded down and rounded up.
+// The number of a policy's rungs and tests, and its value rounded down and rounded up.
 #[derive(Drop)]
-struct BothValues {
+struct Verdict {
+    objects: u64,
     low: Result<i128, JudgeError>,
     high: Result<i128, JudgeError>,
 }
 
-fn judged(alloc: Global, season: &Season, text: &[u8]) -> Result<BothValues, PolicyError>
+fn judged(alloc: Global, season: &Season, text: &[u8]) -> Result<Verdict, PolicyError>
     requires { length text.now ≤ 33554432 }
 {
     let policy = read_policy(alloc, season, text)?;
-    Ok(BothValues {
+    Ok(Verdict {
+        objects: objects(&policy),
         low: judge::<Down>(alloc, season, &policy),
         high: judge::<Up>(alloc, season, &policy),
     })
@@ -182,8 +177,28 @@ fn policies_are_worth_their_values(rt: HostRuntime) -> Result<(), Fail> {
             assert!(rt; false, "{index}");
             continue;
         };
+        assert!(rt; judged.objects == case.objects, "{index}");
         assert!(rt; judged.low == case.low, "{index}");
         assert!(rt; judged.high == case.high, "{index}");
     }
+    Ok(())
+}
+
+// Four objects times 2000^16, which is held at 10^18.
+#[test]
+fn sizes_are_held(rt: HostRuntime) -> Result<(), Fail> {
+    let alloc = rt.alloc();
+    let season = season_of_many(alloc)?;
+    let text = b"{\"rung\":1,\"then\":{\"rung\":1,\"then\":{\"rung\":1,\"then\":{\"rung\":1}}}}";
+    let held = Err(JudgeError::Size {
+        found: 1_000_000_000_000_000_000,
+    });
+    let Ok(judged) = judged(alloc, &season, text) else {
+        assert!(rt; false);
+        return Ok(());
+    };
+    assert!(rt; judged.objects == 4);
+    assert!(rt; judged.low == held);
+    assert!(rt; judged.high == held);
     Ok(())
 }
