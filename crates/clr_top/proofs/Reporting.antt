@@ -1,25 +1,13 @@
--- What the report of a season's plan says.
-use Rattle.std.proofs.Common.{◌≡◌, ◌∙◌, ℕ, ◌-◌, ◌^◌, ℤ, List, sym, arith}
+-- The numbers and the path of a season's plan.
+use Rattle.std.proofs.Common.{◌≡◌, ◌∙◌, ℕ, ◌-◌, ◌^◌, ℤ, List, arith}
 use Rattle.std.proofs.lemmas.Int.{to_z-of_z}
 use Rattle.std.specs.Prelude.{IsTrue}
 use mir.Syntax.{w128}
 use Rattle.clr_average.specs.Average.{IsWithin}
 use Rattle.clr_average.proofs.Reading.{read, within_128}
 use Rattle.clr_average.proofs.Within.{within_more}
-use Rattle.clr_words.specs.Asked.{Ask}
 use Rattle.clr_rules.specs.Rules.{IsPath, Rulebook, obeys}
 use Rattle.clr_rules.proofs.LiveLemmas.{obeys-are_rungs, obeys-length}
-use Rattle.clr_season.specs.Season.{Season}
-use Rattle.clr_report.specs.PlanText.{plan_text}
-use Rattle.clr_report.specs.declared.plan.PlanFacts.{PlanFacts}
-use Rattle.clr_top.specs.Plans.{IsPlan, IsSound, OfPlan}
-
-pub planned-text : (season : Season) (ask : Ask) (facts : PlanFacts) (text : List ℕ) → text ≡ plan_text season facts → IsPlan season ask facts → IsSound season facts → OfPlan season ask (λ told. text ≡ told)
-planned-text season ask facts text is plan sound = (facts, plan, sound, is)
-
--- what holds of the text holds of what the report says
-pub reported : (season : Season) (ask : Ask) (text : List ℕ) (Holds : List ℕ → Type 0) → OfPlan season ask (λ told. text ≡ told) → Holds text → OfPlan season ask Holds
-reported season ask text Holds (facts, plan, sound, is) holds = (facts, plan, sound, rw (sym is) holds)
 
 -- an amount that was passed on
 pub passed_on : (told amount : ℤ) → IsWithin 100000000000000000000 amount → told ≡ read w128 amount → told ≡ amount

@@ -1,16 +1,16 @@
--- What a run is asked, what it reports, and why it ends without a report.
-use Rattle.std.specs.Prelude.{◌≡◌, ◌⊎◌, ◌++◌, ◌∷◌, [], ℕ, ◌≤◌, ◌<◌, IfSome, IsOk, List, codes, length, take, Option, Some, None, Result, Ok, Err, if◌then◌else◌}
-use Rattle.std.specs.Str.{bytes_eq}
+-- What a run is asked, what it writes, and why it ends without its report.
+use Rattle.std.specs.Prelude.{◌≡◌, ◌≢◌, ◌⊎◌, ◌++◌, ◌∷◌, [], ℕ, ◌<◌, IfSome, List, codes, Option, Some, None, Result, Ok, Err, if◌then◌else◌}
+use Rattle.std.specs.Option.{option_map_or}
 use Rattle.std.specs.Io.KnownBytes.{Appends}
 use Rattle.clr_io.specs.Causes.{Rose}
 use Rattle.clr_io.specs.Files.{Files}
-use Rattle.clr_words.specs.Asked.{Ask, ask_of, asked_of}
-use Rattle.clr_words.specs.declared.asked.Asked.{Asked}
+use Rattle.clr_words.specs.Asked.{Ask, asked_of}
 use Rattle.clr_words.specs.declared.asked.Job.{Job}
 use Rattle.clr_words.specs.declared.asked.Job.TheVariants as j
 use Rattle.clr_rules.specs.FirstPath.{NoPathObeys}
 use Rattle.clr_rules.specs.Rules.{is_live}
 use Rattle.clr_season.specs.Season.{Season, IsSeason}
+use Rattle.clr_season.specs.Reads.{Gives as SeasonGives}
 use Rattle.clr_season.specs.Reads.{ReachesFile, Stop, absent, most_bytes, refused, season_in, too_long, too_many_cells}
 use Rattle.clr_season.specs.declared.reads.File.{File}
 use Rattle.clr_season.specs.declared.reads.File.TheVariants as f
@@ -21,11 +21,10 @@ use Rattle.clr_report.specs.declared.note.Doc.{Doc}
 use Rattle.clr_report.specs.declared.note.Doc.TheVariants as d
 use Rattle.clr_report.specs.declared.note.Cause.{Cause}
 use Rattle.clr_report.specs.declared.note.Cause.TheVariants.{Words, Refused, NoPath, ReadFault, Absent, WriteFault, TooLong, Cells, Memory}
-use Rattle.clr_top.specs.Plans.{OfPlan}
+use Rattle.clr_top.specs.Outputs.{AddsFront, Fails, Leaves, Outputs}
+use Rattle.clr_top.specs.Plans.{PlanGives, no_name}
 use Rattle.clr_top.specs.declared.ending.Ending.{Ending}
 use Rattle.clr_top.specs.declared.ending.Ending.TheVariants.{By, NotYet}
-use Rattle.clr_top.specs.declared.ending.Word.{Word}
-use Rattle.clr_top.specs.declared.ending.Word.TheVariants as w
 use Rattle.clr_top.specs.declared.ending.Status.{Status}
 use Rattle.clr_top.specs.declared.ending.Status.TheVariants as s
 
@@ -58,39 +57,27 @@ status_by_cause Memory = s.Memory
 -- the status by which a run ends
 abbrev pub status_of : Ending → Status
 status_of (By cause) = status_by_cause cause
-status_of (NotYet word) = s.NotYet
-
-abbrev pub word_text : Word → List ℕ
-word_text w.Job = codes "job"
-word_text w.Cert = codes "cert"
+status_of NotYet = s.NotYet
 
 -- the text of the note
 abbrev pub note_of : Ending → List ℕ
 note_of (By cause) = note_text_of cause
-note_of (NotYet word) = codes "not yet: " ++ word_text word ++ 10 ∷ []
+note_of NotYet = codes "not yet: job" ++ 10 ∷ []
 
 -- ---- what is asked
 
-abbrev pub is_plan : Job → List ℕ → Ask → Result Ask Ending
-is_plan j.Plan cert ask = if bytes_eq cert (codes "-") then Ok ask else Err (NotYet w.Cert)
-is_plan j.Check cert ask = Err (NotYet w.Job)
-is_plan j.Judge cert ask = Err (NotYet w.Job)
-is_plan j.Make cert ask = Err (NotYet w.Job)
+-- the documents of the files that a job makes, in their order
+abbrev pub docs_by : Job → List ℕ → List Doc
+docs_by j.Plan cert = if no_name cert then [] else d.Certificate ∷ []
+docs_by j.Check cert = []
+docs_by j.Judge cert = []
+docs_by j.Make cert = []
 
-abbrev pub plan_asked : Option Ask → Result Ask Ending
-plan_asked None = Err (By Words)
-plan_asked (Some ask) = is_plan ask.job ask.cert ask
+-- those of what the words ask
+abbrev pub docs_asked : List (List ℕ) → List Doc
+docs_asked words = option_map_or (λ ask. docs_by ask.job ask.cert) (asked_of words) []
 
--- the plan that the words ask, or how the run ends by the words alone
-unfoldable pub asked_plan : List (List ℕ) → Result Ask Ending
-asked_plan words = plan_asked (asked_of words)
-
--- What was read of the words is what they ask, or how the run ends by them, unless memory was wanting.
-abbrev pub AnswersPlan : Result Asked Ending → List (List ℕ) → Type 0
-AnswersPlan (Ok asked) words = asked_plan words ≡ Ok (ask_of asked)
-AnswersPlan (Err ending) words = (ending ≡ By Memory) ⊎ (asked_plan words ≡ Err ending)
-
--- ---- the season that is planned
+-- ---- what the files give
 
 -- a file as the notes name it
 abbrev pub doc_of : File → Doc
@@ -107,10 +94,6 @@ stopped (too_long file) = By (TooLong (doc_of file) most_bytes)
 stopped (refused file refusal) = By (Refused (doc_of file) refusal.row refusal.column refusal.why)
 stopped (too_many_cells found) = By (Cells found)
 
-abbrev pub unless_stopped : Result Season Stop → Result Season Ending
-unless_stopped (Ok season) = Ok season
-unless_stopped (Err stop) = Err (stopped stop)
-
 -- how a run ends by an error of its season
 abbrev pub ending_by : SeasonError → Ending
 ending_by (e.Read file) = By (ReadFault (doc_of file))
@@ -120,76 +103,109 @@ ending_by (e.Refused file row column why) = By (Refused (doc_of file) row column
 ending_by (e.Cells found) = By (Cells found)
 ending_by e.Memory = By Memory
 
--- a season of which some path obeys
-abbrev pub if_some_obeys : Result Season Ending → Result Season Ending
-if_some_obeys (Ok season) = if is_live season.rules [] then Ok season else Err (By NoPath)
-if_some_obeys (Err ending) = Err ending
+-- how a run ends by what its folder reads to
+abbrev pub season_ends : (Season → Option Ending) → Result Season Stop → Option Ending
+season_ends ends (Ok season) = ends season
+season_ends ends (Err stop) = Some (stopped stop)
 
--- the season of the folder that is asked, of which some path obeys, or how the run ends by its files
-abbrev pub season_asked : Files → Ask → Result Season Ending
-season_asked held ask = if_some_obeys (unless_stopped (season_in held ask.folder))
+-- how a plan ends by its season
+abbrev pub plan_ends : Season → Option Ending
+plan_ends season = if is_live season.rules [] then None else Some (By NoPath)
 
-abbrev pub season_for : Files → Result Ask Ending → Result Season Ending
-season_for held (Ok ask) = season_asked held ask
-season_for held (Err ending) = Err ending
+abbrev pub job_ends : Job → Files → Ask → Option Ending
+job_ends j.Plan held ask = season_ends plan_ends (season_in held ask.folder)
+job_ends j.Check held ask = Some NotYet
+job_ends j.Judge held ask = Some NotYet
+job_ends j.Make held ask = Some NotYet
 
--- the season that is planned, or how the run ends: by the words, and then by the files
-abbrev pub planned : Files → List (List ℕ) → Result Season Ending
-planned held words = season_for held (asked_plan words)
+-- how a run ends by the files, where it doesn't come to its outputs
+abbrev pub ends_by : Files → Ask → Option Ending
+ends_by held ask = job_ends ask.job held ask
 
--- ---- what is reported
+-- how it ends by the words, and then by the files
+abbrev pub ending_asked : Files → List (List ℕ) → Option Ending
+ending_asked held words = option_map_or (ends_by held) (asked_of words) (Some (By Words))
 
--- A plan is asked, its folder reads to a season, and something holds of the text of the report on its plan.
-abbrev pub Reports : Option Files → List (List ℕ) → (List ℕ → Type 0) → Type 0
-Reports files words Holds =
-    (ask : Ask) × (season : Season) × (asked_plan words ≡ Ok ask) × IfSome files (λ held. season_in held ask.folder ≡ Ok season) × IsSeason season × OfPlan season ask Holds
+-- The status is exactly what the words and the files say: where they come to outputs, all else is a fault or want of memory; and where the
+-- run ends by them, its status is that, or a fault of the shelf or want of memory.
+abbrev pub Exactly : Status → Option Ending → Type 0
+Exactly status None = (status ≡ s.Ok) ⊎ ((status ≡ s.WriteFault) ⊎ ((status ≡ s.ReadFault) ⊎ (status ≡ s.Memory)))
+Exactly status (Some ending) = (status ≡ status_of ending) ⊎ ((status ≡ s.ReadFault) ⊎ (status ≡ s.Memory))
 
--- a front of the bytes was added
-abbrev pub AddsFront : Option (List ℕ) → Option (List ℕ) → List ℕ → Type 0
-AddsFront old new bytes = (n : ℕ) × (n ≤ length bytes) × Appends old new (take n bytes)
+-- ---- what is written
+
+-- The folder that is asked reads to a season, of which something holds.
+abbrev pub OfSeason : Option Files → Ask → (Season → Type 0) → Type 0
+OfSeason files ask Holds = (season : Season) × IfSome files (λ held. season_in held ask.folder ≡ Ok season) × IsSeason season × Holds season
+
+abbrev pub GivesBy : Job → Option Files → Ask → Outputs → Type 0
+GivesBy j.Plan files ask outputs = OfSeason files ask (λ season. PlanGives season ask outputs)
+GivesBy j.Check files ask outputs = ⊥
+GivesBy j.Judge files ask outputs = ⊥
+GivesBy j.Make files ask outputs = ⊥
+
+-- what a whole run writes
+abbrev pub Gives : Option Files → Ask → Outputs → Type 0
+Gives files ask outputs = GivesBy ask.job files ask outputs
+
+-- Something is asked, and something holds of what a whole run of it writes.
+abbrev pub Writes : Option Files → List (List ℕ) → (Outputs → Type 0) → Type 0
+Writes files words Holds = (ask : Ask) × (outputs : Outputs) × (asked_of words ≡ Some ask) × Gives files ask outputs × Holds outputs
+
+-- After a fault of an output those before it stand whole, of it a front or no file, and nothing of those behind it.
+abbrev pub LeavesOutputs : Option Files → List (List ℕ) → Option Files → Option Files → Option (List ℕ) → Option (List ℕ) → Ending → Type 0
+LeavesOutputs files words made_old made_new written_old written_new ending =
+    (doc : Doc) → ending ≡ By (WriteFault doc) → Writes files words (λ outputs. Leaves (docs_asked words) outputs made_old made_new written_old written_new doc)
 
 -- ---- why a run ends without its report
 
--- A plan is asked, and the files before this one are held, not too long and not refused.
-abbrev pub ReachesDoc : Option Files → List (List ℕ) → Doc → Type 0
-ReachesDoc files words doc =
-    (ask : Ask) × (file : File) × (asked_plan words ≡ Ok ask) × (doc ≡ doc_of file) × IfSome files (λ held. ReachesFile file (season_in held ask.folder))
+-- The run ends so by the files.
+abbrev pub ByFiles : Option Files → Ask → Ending → Type 0
+ByFiles files ask ending = IfSome files (λ held. ends_by held ask ≡ Some ending)
 
--- A plan is asked, its folder reads to a season, and no path of it obeys.
-abbrev pub NoneObeys : Option Files → List (List ℕ) → Type 0
-NoneObeys files words =
-    (ask : Ask) × (season : Season) × (asked_plan words ≡ Ok ask) × IfSome files (λ held. season_in held ask.folder ≡ Ok season) × IsSeason season × NoPathObeys season.rules
+-- an error of the season of a folder, and why it comes
+abbrev pub IsSeasonError : Option Files → List ℕ → ℕ → Type 0 → Ending → Type 0
+IsSeasonError files folder taken ShelfRose ending =
+    (error : SeasonError) × (ending ≡ ending_by error) × IfSome files (λ held. SeasonGives (λ season. season) (Err error) (season_in held folder))
+    × ((file : File) → error ≡ e.Read file → ShelfRose) × ((file : File) → error ≡ e.TooLong file → most_bytes < taken)
 
--- A plan is asked, and the run ends so by its files.
-abbrev pub ByFiles : Option Files → List (List ℕ) → Ending → Type 0
-ByFiles files words ending = (ask : Ask) × (asked_plan words ≡ Ok ask) × IfSome files (λ held. season_asked held ask ≡ Err ending)
+-- a job is asked that reads a season
+abbrev pub ReadsSeason : List (List ℕ) → Type 0
+ReadsSeason words = (ask : Ask) × (asked_of words ≡ Some ask) × (ask.job ≢ j.Make)
 
--- Why a run ends by a cause: the files of the shelf, where they are told; the words; the bytes that were taken of the
--- open file in the end; and the counts of faults of the shelf and of the report's sink, before and afterwards.
-abbrev pub CausedBy : Option Files → List (List ℕ) → ℕ → ℕ → ℕ → ℕ → ℕ → Cause → Type 0
-CausedBy files words taken shelf_old shelf_new out_old out_new Words = asked_of words ≡ None
-CausedBy files words taken shelf_old shelf_new out_old out_new (Refused doc row column why) = ByFiles files words (By (Refused doc row column why))
-CausedBy files words taken shelf_old shelf_new out_old out_new NoPath = NoneObeys files words
-CausedBy files words taken shelf_old shelf_new out_old out_new (ReadFault doc) = Rose shelf_old shelf_new × ReachesDoc files words doc
-CausedBy files words taken shelf_old shelf_new out_old out_new (Absent doc) = ByFiles files words (By (Absent doc))
-CausedBy files words taken shelf_old shelf_new out_old out_new (WriteFault doc) = (doc ≡ d.Report) × Rose out_old out_new × IfSome files (λ held. IsOk (planned held words))
-CausedBy files words taken shelf_old shelf_new out_old out_new (TooLong doc max) = (max < taken) × ByFiles files words (By (TooLong doc max))
-CausedBy files words taken shelf_old shelf_new out_old out_new (Cells found) = ByFiles files words (By (Cells found))
-CausedBy files words taken shelf_old shelf_new out_old out_new Memory = Unit {0}
+-- The job reads a season, and the files before this one are held, not too long and not refused.
+abbrev pub ReachesDoc : Option Files → Ask → Doc → Type 0
+ReachesDoc files ask doc = (ask.job ≢ j.Make) × ((file : File) × (doc ≡ doc_of file) × IfSome files (λ held. ReachesFile file (season_in held ask.folder)))
 
-abbrev pub NotYetBy : Option Files → List (List ℕ) → Word → Type 0
-NotYetBy files words w.Job = asked_plan words ≡ Err (NotYet w.Job)
-NotYetBy files words w.Cert = asked_plan words ≡ Err (NotYet w.Cert)
+-- A plan is asked, and no path of its season obeys.
+abbrev pub NoneObeys : Option Files → Ask → Type 0
+NoneObeys files ask = (ask.job ≡ j.Plan) × OfSeason files ask (λ season. NoPathObeys season.rules)
 
-abbrev pub Caused : Option Files → List (List ℕ) → ℕ → ℕ → ℕ → ℕ → ℕ → Ending → Type 0
-Caused files words taken shelf_old shelf_new out_old out_new (By cause) = CausedBy files words taken shelf_old shelf_new out_old out_new cause
-Caused files words taken shelf_old shelf_new out_old out_new (NotYet word) = NotYetBy files words word
+-- Why a run ends behind the words and before it writes: what is asked; the files of the shelf, where they are told; the bytes that were
+-- taken of the open file in the end; and whether the shelf's faults rose.
+abbrev pub ReadEnds : Option Files → Ask → ℕ → Type 0 → Ending → Type 0
+ReadEnds files ask taken ShelfRose (By Words) = ⊥
+ReadEnds files ask taken ShelfRose (By (Refused doc row column why)) = ByFiles files ask (By (Refused doc row column why))
+ReadEnds files ask taken ShelfRose (By NoPath) = NoneObeys files ask
+ReadEnds files ask taken ShelfRose (By (ReadFault doc)) = ShelfRose × ReachesDoc files ask doc
+ReadEnds files ask taken ShelfRose (By (Absent doc)) = ByFiles files ask (By (Absent doc))
+ReadEnds files ask taken ShelfRose (By (WriteFault doc)) = ⊥
+ReadEnds files ask taken ShelfRose (By (TooLong doc max)) = (max < taken) × ByFiles files ask (By (TooLong doc max))
+ReadEnds files ask taken ShelfRose (By (Cells found)) = ByFiles files ask (By (Cells found))
+ReadEnds files ask taken ShelfRose (By Memory) = Unit {0}
+ReadEnds files ask taken ShelfRose NotYet = ask.job ≢ j.Plan
 
--- The status is exactly what the words and the files say: where a season is planned, all else is a fault or want of
--- memory; and where the run ends by the words or the files, its status is that, or a fault of the shelf or want of memory.
-abbrev pub Exactly : Status → Result Season Ending → Type 0
-Exactly status (Ok season) = (status ≡ s.Ok) ⊎ ((status ≡ s.WriteFault) ⊎ ((status ≡ s.ReadFault) ⊎ (status ≡ s.Memory)))
-Exactly status (Err ending) = (status ≡ status_of ending) ⊎ ((status ≡ s.ReadFault) ⊎ (status ≡ s.Memory))
+-- Why a run ends before it writes: memory was wanting, the words ask nothing, or what is read.
+abbrev pub EndsBefore : Option Files → List (List ℕ) → ℕ → Type 0 → Ending → Type 0
+EndsBefore files words taken ShelfRose ending =
+    (ending ≡ By Memory) ⊎ (((ending ≡ By Words) × (asked_of words ≡ None)) ⊎ ((ask : Ask) × (asked_of words ≡ Some ask) × ReadEnds files ask taken ShelfRose ending))
+
+-- Why a run ends: before it writes, or by a fault of an output, where the words and the files come to outputs. The three conditions say
+-- whether the faults of the shelf, of the desk and of the report's sink rose.
+abbrev pub Caused : Option Files → List (List ℕ) → ℕ → Type 0 → Type 0 → Type 0 → Ending → Type 0
+Caused files words taken ShelfRose DeskRose OutRose ending =
+    EndsBefore files words taken ShelfRose ending
+    ⊎ ((doc : Doc) × (ending ≡ By (WriteFault doc)) × Fails (docs_asked words) DeskRose OutRose doc × IfSome files (λ held. ending_asked held words ≡ None))
 
 -- The note of how the run ends was added, or a front of it where the note's faults rose.
 abbrev pub Notes : Option (List ℕ) → Option (List ℕ) → ℕ → ℕ → Ending → Type 0

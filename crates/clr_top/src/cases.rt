@@ -140,13 +140,13 @@ pub(crate) fn planned(alloc: Global, files: Files<'_>) -> Result<Answer, AllocEr
     asked_of(alloc, &["plan", "f"], files)
 }
 
-// The plan of the same files in a real folder, which is there.
-pub(crate) fn planned_on_disk(
+// Puts the files into a real folder, which is there.
+pub(crate) fn write_files(
     rt: &impl RealFiles,
     alloc: Global,
     folder: &str,
     files: Files<'_>,
-) -> Result<Answer, Fail> {
+) -> Result<(), Fail> {
     let all: [(&str, &[u8]); 5] = [
         ("rules.json", files.rules),
         ("calendar.csv", files.calendar),
@@ -158,6 +158,17 @@ pub(crate) fn planned_on_disk(
         let path = format!(in alloc; "{folder}/{name}")?;
         fs::write(rt, path.as_str(), bytes)?;
     }
+    Ok(())
+}
+
+// The plan of the same files in a real folder, which is there.
+pub(crate) fn planned_on_disk(
+    rt: &impl RealFiles,
+    alloc: Global,
+    folder: &str,
+    files: Files<'_>,
+) -> Result<Answer, Fail> {
+    write_files(rt, alloc, folder, files)?;
     let mut shelf = FileShelf::new(rt);
     let answer = run_on(alloc, &["plan", folder], &mut shelf, &[])?;
     Ok(answer)

@@ -1,6 +1,6 @@
 // How a run ends, and the note of it.
 ghost use Rattle.std.specs.Prelude.{◌≡◌};
-ghost use Rattle.clr_top.specs.Runs.{Notes, doc_of, number_of, note_of, status_by_cause, status_of, word_text};
+ghost use Rattle.clr_top.specs.Runs.{Notes, doc_of, number_of, note_of, status_by_cause, status_of};
 
 use clr_io::{Failed, Sink, write_whole};
 use clr_report::{Cause, Doc, note_text};
@@ -19,7 +19,7 @@ pub enum Status {
     NoPath,
     /// The shelf failed while a file was opened or read.
     ReadFault,
-    /// The report's sink failed.
+    /// The report's sink failed, or the desk while a file was made or written.
     WriteFault,
     /// A file is longer than its limit, or the season's tables have too many cells.
     Limit,
@@ -27,7 +27,7 @@ pub enum Status {
     Memory,
     /// A file that is needed isn't held.
     Absent,
-    /// What is asked can't be done yet.
+    /// The job that is asked can't be done yet.
     NotYet,
 }
 
@@ -51,22 +51,13 @@ impl Status {
     }
 }
 
-/// What can't be done yet.
-#[derive(Clone, Copy)]
-pub enum Word {
-    /// A job other than a plan.
-    Job,
-    /// A certificate.
-    Cert,
-}
-
 /// Why a run ends without its whole report.
 #[derive(Clone, Copy)]
 pub enum Ending {
     /// By a cause that the notes tell.
     By { cause: Cause },
-    /// By what can't be done yet.
-    NotYet { word: Word },
+    /// By a job that can't be done yet.
+    NotYet,
 }
 
 /// The end by a cause that the notes tell.
@@ -98,7 +89,7 @@ pub(crate) fn ending_status(ending: Ending) -> Status
 {
     match ending {
         Ending::By { cause } => status_by(cause),
-        Ending::NotYet { .. } => Status::NotYet,
+        Ending::NotYet => Status::NotYet,
     }
 }
 
@@ -115,13 +106,10 @@ pub(crate) fn doc(file: File) -> Doc
     }
 }
 
-fn not_yet_text(word: Word) -> &'static str
-    ensures { result.now ≡ note_of (Ending.NotYet word) }
+fn not_yet_text() -> &'static str
+    ensures { result.now ≡ note_of Ending.NotYet }
 {
-    match word {
-        Word::Job => "not yet: job\n",
-        Word::Cert => "not yet: cert\n",
-    }
+    "not yet: job\n"
 }
 
 fn write_told<N: Sink>(note: &mut N, cause: Cause) -> Result<(), Failed>
@@ -140,7 +128,7 @@ pub(crate) fn write_note<N: Sink>(note: &mut N, ending: Ending)
 {
     let written = match ending {
         Ending::By { cause } => write_told(note, cause),
-        Ending::NotYet { word } => write_whole(note, not_yet_text(word).as_bytes()),
+        Ending::NotYet => write_whole(note, not_yet_text().as_bytes()),
     };
     let _ = written;
 }

@@ -1,4 +1,4 @@
-// The values of the table for the stocks of all stores.
+// The table for the stocks of all stores.
 ghost use Rattle.std.specs.Prelude.{◌≡◌, ◌↔◌, [], IfOk, IfSome, IsSome, IsTrue};
 ghost use Rattle.clr_average.specs.Average.{IsWithin};
 ghost use Rattle.clr_joint.specs.Tables.{IsJointOf, at_stocks, choices_of, opening};
@@ -9,6 +9,7 @@ ghost use Rattle.clr_rules.specs.FirstPath.{SomePathObeys};
 ghost use Rattle.clr_rules.specs.LiveSummaries.{live_pairs};
 ghost use Rattle.clr_rules.specs.Rules.{summary};
 ghost use Rattle.clr_season.specs.Season.{IsSeason};
+ghost use Rattle.clr_top.specs.Held.{IfJoint};
 ghost use Rattle.clr_top.specs.Plans.{IsExactSound, exact_of};
 
 use clr_joint::Joint;
@@ -49,24 +50,35 @@ fn opening_values(
     Ok((i128::from(joint.low()), i128::from(joint.top()), first))
 }
 
-/// The values of the table for the stocks of all stores, where the season is small enough for one.
-pub(crate) fn exact_values(
-    alloc: Global,
-    season: &Season,
-    live: &Live,
-) -> Result<Option<(i128, i128, u32)>, AllocError>
+/// The table for the stocks of all stores and its values before the first week at full stocks: rounded down, rounded up, and
+/// the rung that it puts there. Both are there where the season is small enough for them.
+#[derive(Drop)]
+pub(crate) struct Exact {
+    pub joint: Option<Joint>,
+    pub values: Option<(i128, i128, u32)>,
+}
+
+/// The table for the stocks of all stores, where the season is small enough for one, and its values.
+pub(crate) fn exact_table(alloc: Global, season: &Season, live: &Live) -> Result<Exact, AllocError>
     requires facts { IsSeason season.now }
     requires live { live.now ≡ live_pairs season.now.rules }
     requires any { SomePathObeys season.now.rules }
-    ensures value { IfOk result (λ exact. exact ≡ exact_of season.now) }
-    ensures sound { IfOk result (λ exact. IfSome exact (λ values. IsExactSound season.now values.0 values.1)) }
-    ensures told { IfOk result (λ exact. IfSome exact (IsExactOf season.now)) }
-    ensures fit { IfOk result (λ exact. IsTrue (fits season.now) ↔ IsSome exact) }
+    ensures joint { IfOk result (λ exact. IsTrue (fits season.now) → IfJoint exact.joint (IsJointOf season.now)) }
+    ensures value { IfOk result (λ exact. exact.values ≡ exact_of season.now) }
+    ensures sound { IfOk result (λ exact. IfSome exact.values (λ values. IsExactSound season.now values.0 values.1)) }
+    ensures told { IfOk result (λ exact. IfSome exact.values (IsExactOf season.now)) }
+    ensures fit { IfOk result (λ exact. IsTrue (fits season.now) ↔ IsSome exact.values) }
 {
     if !fits(season) {
-        return Ok(None);
+        return Ok(Exact {
+            joint: None,
+            values: None,
+        });
     }
     let joint = Joint::build(alloc, season, live)?;
     let values = opening_values(alloc, season, &joint)?;
-    Ok(Some(values))
+    Ok(Exact {
+        joint: Some(joint),
+        values: Some(values),
+    })
 }

@@ -218,7 +218,7 @@ fn each_call_fails_once(rt: HostRuntime) -> Result<(), Fail> {
 #[test]
 fn words_are_read(rt: HostRuntime) -> Result<(), Fail> {
     let alloc = rt.alloc();
-    let cases: [(&[&str], Status, &str); 11] = [
+    let cases: [(&[&str], Status, &str); 10] = [
         (&[], Status::Words, USAGE),
         (&["plan"], Status::Words, USAGE),
         (&["paint", "f"], Status::Words, USAGE),
@@ -231,11 +231,6 @@ fn words_are_read(rt: HostRuntime) -> Result<(), Fail> {
             &["make", "f", "--cert", "c"],
             Status::NotYet,
             "not yet: job",
-        ),
-        (
-            &["plan", "f", "--cert", "c"],
-            Status::NotYet,
-            "not yet: cert",
         ),
         (&["plan", "e"], Status::Absent, "absent: rules.json"),
     ];

@@ -5,7 +5,10 @@
 
 #[cfg(test)]
 mod cases;
+#[cfg(test)]
+mod certs;
 mod ending;
+mod entries;
 mod exact;
 #[cfg(test)]
 mod faults;

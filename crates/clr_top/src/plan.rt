@@ -1,21 +1,35 @@
 // The plan of a season.
-ghost use Rattle.std.specs.Prelude.{◌≡◌, ◌⊎◌, IfOk, IsErrOf};
+ghost use Rattle.std.specs.Prelude.{◌≡◌, ◌⊎◌, ◌↔◌, ◌<◌, IfOk, IsErrOf, IsTrue, length};
+ghost use Rattle.clr_joint.specs.Tables.{IsJointOf};
+ghost use Rattle.clr_model.specs.Fits.{fits};
+ghost use Rattle.clr_mult.specs.Tables.{mult_at};
+ghost use Rattle.clr_num.specs.Rounding.{ceil, floor};
+ghost use Rattle.clr_path.specs.Tables.{path_rows};
 ghost use Rattle.clr_report.specs.declared.note.Cause.{Cause};
 ghost use Rattle.clr_report.specs.PlanText.{IsPlanOf};
 ghost use Rattle.clr_rules.specs.FirstPath.{NoPathObeys, SomePathObeys};
 ghost use Rattle.clr_rules.specs.LiveSummaries.{live_pairs};
+ghost use Rattle.clr_rules.specs.Rules.{IsPath};
 ghost use Rattle.clr_season.specs.Season.{IsSeason};
+ghost use Rattle.clr_storedp.specs.Tables.{AreOfSeason, AreSmall, AreTablesOf};
+ghost use Rattle.clr_subgrad.specs.Run.{run_table};
 ghost use Rattle.clr_top.specs.declared.ending.Ending.{Ending};
-ghost use Rattle.clr_top.specs.Plans.{IsPlan, IsSound, OfPlan};
+ghost use Rattle.clr_top.specs.Held.{IfJoint, IsWhole, entries_of};
+ghost use Rattle.clr_top.specs.Plans.{IsPlan, IsPlanText, IsSound};
 ghost use Rattle.clr_words.specs.Asked.{IsAsk, ask_of};
 
 use crate::ending::{Ending, by};
-use crate::exact::exact_values;
+use crate::entries::PlanEntries;
+use crate::exact::exact_table;
+use clr_joint::Joint;
+use clr_model::Path;
+use clr_num::{Down, Up};
+use clr_path::PathTable;
 use clr_report::{Cause, PlanFacts, plan_text};
 use clr_rules::Live;
 use clr_search::{Found, search};
 use clr_season::Season;
-use clr_subgrad::descend;
+use clr_subgrad::{Descent, descend};
 use clr_words::Asked;
 use std::alloc::{AllocError, Global};
 
@@ -40,6 +54,14 @@ fn facts_of(found: Found, bound: i128, at_step: u32, exact: Option<(i128, i128, 
     }
 }
 
+// What a plan tells, the descent and the table for the stocks of all stores that it comes from.
+#[derive(Drop)]
+struct Computed {
+    facts: PlanFacts,
+    descent: Descent,
+    joint: Option<Joint>,
+}
+
 // The bound of the descent that is asked, the path of the search that is asked, and the values of the table for all
 // stores, where some path obeys.
 fn plan_facts(
@@ -47,16 +69,22 @@ fn plan_facts(
     season: &Season,
     live: &Live,
     asked: &Asked,
-) -> Result<PlanFacts, AllocError>
+) -> Result<Computed, AllocError>
     requires facts { IsSeason season.now }
     requires live { live.now ≡ live_pairs season.now.rules }
     requires any { SomePathObeys season.now.rules }
     requires asked { IsAsk (ask_of asked.now) }
-    ensures plan { IfOk result (λ facts. IsPlan season.now (ask_of asked.now) facts) }
-    ensures sound { IfOk result (λ facts. IsSound season.now facts) }
-    ensures told { IfOk result (λ facts. IsPlanOf season.now facts) }
+    ensures plan { IfOk result (λ computed. IsPlan season.now (ask_of asked.now) computed.facts) }
+    ensures sound { IfOk result (λ computed. IsSound season.now computed.facts) }
+    ensures told { IfOk result (λ computed. IsPlanOf season.now computed.facts) }
+    ensures step { IfOk result (λ computed. computed.facts.at_step ≡ computed.descent.at_step) }
+    ensures mult { IfOk result (λ computed. computed.descent.mult ≡ run_table season.now asked.now.step computed.descent.at_step) }
+    ensures of_season { IfOk result (λ computed. AreOfSeason season.now computed.descent.mult) }
+    ensures small { IfOk result (λ computed. AreSmall computed.descent.mult) }
+    ensures tables { IfOk result (λ computed. AreTablesOf ceil (mult_at computed.descent.mult) season.now computed.descent.tables.items) }
+    ensures joint { IfOk result (λ computed. IsTrue (fits season.now) → IfJoint computed.joint (IsJointOf season.now)) }
 {
-    let exact = exact_values(alloc, season, live)?;
+    let exact = exact_table(alloc, season, live)?;
     let descent = descend(alloc, season, live, asked.step, asked.steps)?;
     let found = search(
         alloc,
@@ -66,41 +94,91 @@ fn plan_facts(
         &descent.tables,
         asked.nodes,
     )?;
-    Ok(facts_of(found, descent.bound, descent.at_step, exact))
+    let facts = facts_of(found, descent.bound, descent.at_step, exact.values);
+    Ok(Computed {
+        facts,
+        descent,
+        joint: exact.joint,
+    })
 }
 
-// The report of the plan that is asked, where some path obeys.
-fn plan_report(
+// What the certificate of a path and a step of the descent is written from.
+fn plan_entries(
     alloc: Global,
     season: &Season,
-    live: &Live,
-    asked: &Asked,
-) -> Result<Vec<u8>, AllocError>
+    path: Path,
+    descent: Descent,
+    joint: Option<Joint>,
+) -> Result<PlanEntries, AllocError>
+    requires path { IsPath season.now.rules path }
+    ensures path { IfOk result (λ held. held.path ≡ path) }
+    ensures low { IfOk result (λ held. held.low ≡ path_rows floor season.now path) }
+    ensures high { IfOk result (λ held. held.high ≡ path_rows ceil season.now path) }
+    ensures mult { IfOk result (λ held. held.mult ≡ descent.mult) }
+    ensures tables { IfOk result (λ held. held.tables ≡ descent.tables) }
+    ensures joint { IfOk result (λ held. held.joint ≡ joint) }
+{
+    let low = PathTable::<Down>::build(alloc, season, &path)?;
+    let high = PathTable::<Up>::build(alloc, season, &path)?;
+    Ok(PlanEntries {
+        path,
+        low,
+        high,
+        mult: descent.mult,
+        tables: descent.tables,
+        joint,
+    })
+}
+
+/// A plan: what its certificate is written from, and the text of its report.
+#[derive(Drop)]
+pub(crate) struct Plan {
+    pub entries: PlanEntries,
+    pub text: Vec<u8>,
+}
+
+// The plan that is asked, where some path obeys.
+fn plan_of(alloc: Global, season: &Season, live: &Live, asked: &Asked) -> Result<Plan, AllocError>
     requires facts { IsSeason season.now }
     requires live { live.now ≡ live_pairs season.now.rules }
     requires any { SomePathObeys season.now.rules }
     requires asked { IsAsk (ask_of asked.now) }
-    ensures { IfOk result (λ text. OfPlan season.now (ask_of asked.now) (λ told. text.items ≡ told)) }
+    ensures plan { IfOk result (λ plan. IsPlanText season.now (ask_of asked.now) (entries_of plan.entries) plan.text.items) }
+    ensures whole { IfOk result (λ plan. IsWhole season.now plan.entries) }
 {
-    let facts = plan_facts(alloc, season, live, asked)?;
-    let text = plan_text(alloc, season, &facts)?;
-    Ok(text)
+    let computed = plan_facts(alloc, season, live, asked)?;
+    let text = plan_text(alloc, season, &computed.facts)?;
+    let entries = plan_entries(
+        alloc,
+        season,
+        computed.facts.path,
+        computed.descent,
+        computed.joint,
+    )?;
+    Ok(Plan { entries, text })
 }
 
-/// The report of the plan of a season that is asked, or that no path of it obeys.
-pub(crate) fn plan_season(alloc: Global, season: &Season, asked: &Asked) -> Result<Vec<u8>, Ending>
-    requires { IsAsk (ask_of asked.now) }
-    ensures text { IfOk result (λ text. OfPlan season.now (ask_of asked.now) (λ told. text.items ≡ told)) }
+/// The plan of a season that is asked, or that no path of it obeys. `live` is of the season.
+pub(crate) fn plan_season(
+    alloc: Global,
+    season: &Season,
+    live: &Live,
+    asked: &Asked,
+) -> Result<Plan, Ending>
+    requires facts { IsSeason season.now }
+    requires live { live.now ≡ live_pairs season.now.rules }
+    requires any { (0 < length live.now) ↔ SomePathObeys season.now.rules }
+    requires asked { IsAsk (ask_of asked.now) }
+    ensures plan { IfOk result (λ plan. IsPlanText season.now (ask_of asked.now) (entries_of plan.entries) plan.text.items) }
+    ensures whole { IfOk result (λ plan. IsWhole season.now plan.entries) }
+    ensures any { IfOk result (λ plan. SomePathObeys season.now.rules) }
     ensures ends { (ending : Ending) → IsErrOf result ending → (ending ≡ Ending.By Cause.Memory) ⊎ ((ending ≡ Ending.By Cause.NoPath) × NoPathObeys season.now.rules) }
 {
-    let Ok(live) = Live::build(alloc, season.rules()) else {
-        return Err(by(Cause::Memory));
-    };
     if !live.any() {
         return Err(by(Cause::NoPath));
     }
-    match plan_report(alloc, season, &live, asked) {
-        Ok(text) => Ok(text),
+    match plan_of(alloc, season, live, asked) {
+        Ok(plan) => Ok(plan),
         Err(_) => Err(by(Cause::Memory)),
     }
 }

@@ -1,7 +1,6 @@
 //! The program's one call: it does what the words ask, over any shelf, desk and sinks.
 
-ghost use Rattle.std.specs.Prelude.{◌≡◌, ◌≢◌, ◌⊎◌, ◌≤◌, ℕ, IfOk, IfSome, IsErrOf, IsOk, OnOk, Ok, Some, None, map, string_bytes};
-ghost use Rattle.std.specs.Io.KnownBytes.{Appends};
+ghost use Rattle.std.specs.Prelude.{◌≡◌, ◌≢◌, ◌⊎◌, ◌≤◌, ◌<◌, [], Contains, IfOk, IfSome, IsErrOf, OnOk, Ok, Err, Some, None, map, string_bytes};
 ghost use Rattle.clr_io.specs.Causes.{Rose};
 ghost use Rattle.clr_io.specs.Files.{Files};
 ghost use Rattle.clr_report.specs.declared.note.Cause.{Cause};
@@ -9,36 +8,35 @@ ghost use Rattle.clr_report.specs.declared.note.Doc.{Doc};
 ghost use Rattle.clr_season.specs.Reads.{season_in};
 ghost use Rattle.clr_season.specs.Season.{IsSeason};
 ghost use Rattle.clr_words.specs.Asked.{IsAsk, ask_of, asked_of};
+ghost use Rattle.clr_words.specs.declared.asked.Job.{Job};
 ghost use Rattle.clr_top.specs.declared.ending.Ending.{Ending};
-ghost use Rattle.clr_top.specs.Runs.{AddsFront, AnswersPlan, Caused, Exactly, Notes, Reports, asked_plan, ending_by, planned, status_of};
+ghost use Rattle.clr_top.specs.Outputs.{Fails, Leaves, LeavesFiles, Wrote, with_files};
+ghost use Rattle.clr_top.specs.Ready.{IsReady, docs_ready, outputs_of};
+ghost use Rattle.clr_top.specs.Runs.{Caused, EndsBefore, Exactly, Gives, IsSeasonError, LeavesOutputs, Notes, ReadEnds, ReadsSeason, Writes, docs_asked, docs_by, ending_asked, ending_by, ends_by, status_of};
 
-use crate::ending::{Ending, Status, Word, by, doc, ending_status, write_note};
-use crate::plan::plan_season;
+use crate::ending::{Ending, Status, by, doc, ending_status, write_note};
+use crate::plan::{Plan, plan_season};
+use clr_cert::{CertError, write_cert};
 use clr_io::{Desk, Shelf, Sink, write_whole};
 use clr_report::{Cause, Doc};
+use clr_rules::Live;
 use clr_season::{Season, SeasonError, read_season};
 use clr_words::{Asked, Job, WordsError, read_words};
 use std::alloc::Global;
 
-// What the words ask, where they ask a plan without a certificate.
-#[tactic(auto, unfolding(crate::specs::Runs::asked_plan))]
-fn read_plan_words(alloc: Global, words: &[String]) -> Result<Asked, Ending>
-    ensures answers { AnswersPlan result (map string_bytes words.now) }
+// ---- what is read
+
+// What the words ask.
+fn read_asked(alloc: Global, words: &[String]) -> Result<Asked, Ending>
+    ensures asked { IfOk result (λ asked. asked_of (map string_bytes words.now) ≡ Some (ask_of asked)) }
     ensures facts { IfOk result (λ asked. IsAsk (ask_of asked)) }
+    ensures ends { (ending : Ending) → IsErrOf result ending → (ending ≡ Ending.By Cause.Memory) ⊎ ((ending ≡ Ending.By Cause.Words) × (asked_of (map string_bytes words.now) ≡ None)) }
 {
-    let asked = match read_words(alloc, words) {
-        Ok(asked) => asked,
-        Err(WordsError::Faulty) => return Err(by(Cause::Words)),
-        Err(WordsError::Memory) => return Err(by(Cause::Memory)),
-    };
-    match asked.job {
-        Job::Plan => {}
-        _ => return Err(Ending::NotYet { word: Word::Job }),
+    match read_words(alloc, words) {
+        Ok(asked) => Ok(asked),
+        Err(WordsError::Faulty) => Err(by(Cause::Words)),
+        Err(WordsError::Memory) => Err(by(Cause::Memory)),
     }
-    if asked.cert.as_str() != "-" {
-        return Err(Ending::NotYet { word: Word::Cert });
-    }
-    Ok(asked)
 }
 
 // How a run ends by an error of its season.
@@ -68,102 +66,198 @@ fn unread(error: SeasonError) -> Ending
     }
 }
 
-// The report of the plan that the words ask.
-fn report<H: Shelf>(alloc: Global, words: &[String], shelf: &mut H) -> Result<Vec<u8>, Ending>
-    ensures text { IfOk result (λ text. Reports (H.files shelf.old) (map string_bytes words.now) (λ told. text.items ≡ told)) }
-    ensures caused { (ending : Ending) → IsErrOf result ending → (out_old out_new : ℕ) → Caused (H.files shelf.old) (map string_bytes words.now) (H.taken shelf.new) (H.faults shelf.old) (H.faults shelf.new) out_old out_new ending }
+// The season of the folder that is asked.
+fn asked_season<H: Shelf>(alloc: Global, asked: &Asked, shelf: &mut H) -> Result<Season, Ending>
+    ensures season { IfOk result (λ season. IfSome (H.files shelf.old) (λ held. season_in held (string_bytes asked.now.folder) ≡ Ok season)) }
+    ensures facts { IfOk result (λ season. IsSeason season) }
+    ensures ends { (ending : Ending) → IsErrOf result ending → IsSeasonError (H.files shelf.old) (string_bytes asked.now.folder) (H.taken shelf.new) (Rose (H.faults shelf.old) (H.faults shelf.new)) ending }
     ensures files { H.files shelf.new ≡ H.files shelf.old }
     ensures later { H.faults shelf.old ≤ H.faults shelf.new }
 {
-    let asked = match read_plan_words(alloc, words) {
-        Ok(asked) => asked,
-        Err(ending) => return Err(ending),
-    };
-    let season = match read_season(alloc, shelf, asked.folder.as_str()) {
-        Ok(season) => season,
-        Err(error) => return Err(unread(error)),
-    };
-    match plan_season(alloc, &season, &asked) {
-        Ok(text) => Ok(text),
-        Err(ending) => Err(ending),
+    match read_season(alloc, shelf, asked.folder.as_str()) {
+        Ok(season) => Ok(season),
+        Err(error) => Err(unread(error)),
     }
 }
 
-// Makes the report of the plan that the words ask, and writes it.
-fn work<H: Shelf, O: Sink>(
-    alloc: Global,
-    words: &[String],
-    shelf: &mut H,
-    out: &mut O,
-) -> Result<(), Ending>
-    ensures ok { OnOk result (Reports (H.files shelf.old) (map string_bytes words.now) (λ text. Appends (O.written out.old) (O.written out.new) text)) }
-    ensures caused { (ending : Ending) → IsErrOf result ending → Caused (H.files shelf.old) (map string_bytes words.now) (H.taken shelf.new) (H.faults shelf.old) (H.faults shelf.new) (O.faults out.old) (O.faults out.new) ending }
-    ensures front { IsErrOf result (Ending.By (Cause.WriteFault Doc.Report)) → Reports (H.files shelf.old) (map string_bytes words.now) (λ text. AddsFront (O.written out.old) (O.written out.new) text) }
-    ensures quiet { (ending : Ending) → IsErrOf result ending → ending ≢ Ending.By (Cause.WriteFault Doc.Report) → O.written out.new ≡ O.written out.old }
-    ensures around { O.around out.new ≡ O.around out.old }
+// ---- what stands ready to be written
+
+// A plan, the season that it is of, and the name of its certificate.
+#[derive(Drop)]
+struct Ready {
+    season: Season,
+    live: Live,
+    plan: Plan,
+    cert: String,
+}
+
+// The plan that is asked.
+fn ready_plan<H: Shelf>(alloc: Global, asked: Asked, shelf: &mut H) -> Result<Ready, Ending>
+    requires job { asked.job ≡ Job.Plan }
+    requires facts { IsAsk (ask_of asked) }
+    ensures gives { IfOk result (λ ready. Gives (H.files shelf.old) (ask_of asked) (outputs_of ready)) }
+    ensures docs { IfOk result (λ ready. docs_ready ready ≡ docs_by asked.job (string_bytes asked.cert)) }
+    ensures passes { IfOk result (λ ready. IfSome (H.files shelf.old) (λ held. ends_by held (ask_of asked) ≡ None)) }
+    ensures ready { IfOk result (λ ready. IsReady ready) }
+    ensures ends { (ending : Ending) → IsErrOf result ending → ReadEnds (H.files shelf.old) (ask_of asked) (H.taken shelf.new) (Rose (H.faults shelf.old) (H.faults shelf.new)) ending }
     ensures files { H.files shelf.new ≡ H.files shelf.old }
     ensures later { H.faults shelf.old ≤ H.faults shelf.new }
 {
-    let text = match report(alloc, words, shelf) {
-        Ok(text) => text,
-        Err(ending) => return Err(ending),
+    let season = asked_season(alloc, &asked, shelf)?;
+    let Ok(live) = Live::build(alloc, season.rules()) else {
+        return Err(by(Cause::Memory));
     };
-    match write_whole(out, &text) {
+    let plan = plan_season(alloc, &season, &live, &asked)?;
+    Ok(Ready {
+        season,
+        live,
+        plan,
+        cert: asked.cert,
+    })
+}
+
+// What the words ask, ready to be written.
+fn prepare<H: Shelf>(alloc: Global, words: &[String], shelf: &mut H) -> Result<Ready, Ending>
+    ensures writes { IfOk result (λ ready. Writes (H.files shelf.old) (map string_bytes words.now) (λ outputs. outputs ≡ outputs_of ready)) }
+    ensures docs { IfOk result (λ ready. docs_ready ready ≡ docs_asked (map string_bytes words.now)) }
+    ensures passes { IfOk result (λ ready. IfSome (H.files shelf.old) (λ held. ending_asked held (map string_bytes words.now) ≡ None)) }
+    ensures ready { IfOk result (λ ready. IsReady ready) }
+    ensures ends { (ending : Ending) → IsErrOf result ending → EndsBefore (H.files shelf.old) (map string_bytes words.now) (H.taken shelf.new) (Rose (H.faults shelf.old) (H.faults shelf.new)) ending }
+    ensures files { H.files shelf.new ≡ H.files shelf.old }
+    ensures later { H.faults shelf.old ≤ H.faults shelf.new }
+{
+    let asked = read_asked(alloc, words)?;
+    match asked.job {
+        Job::Plan => ready_plan(alloc, asked, shelf),
+        _ => Err(Ending::NotYet),
+    }
+}
+
+// ---- writing
+
+// Makes the files on the desk: the certificate, where one is asked.
+fn write_made<D: Desk>(alloc: Global, ready: &Ready, desk: &mut D) -> Result<(), Ending>
+    requires { IsReady ready.now }
+    ensures ok { OnOk result (D.made desk.new ≡ with_files (D.made desk.old) (outputs_of ready.now).made) }
+    ensures none { docs_ready ready.now ≡ [] → desk.new ≡ desk.old }
+    ensures ends { (ending : Ending) → IsErrOf result ending → (ending ≡ Ending.By Cause.Memory) ⊎ ((doc : Doc) × (ending ≡ Ending.By (Cause.WriteFault doc))) }
+    ensures memory { IsErrOf result (Ending.By Cause.Memory) → desk.new ≡ desk.old }
+    ensures failed { (doc : Doc) → IsErrOf result (Ending.By (Cause.WriteFault doc)) → Contains (docs_ready ready.now) doc × Rose (D.faults desk.old) (D.faults desk.new) }
+    ensures leaves { (doc : Doc) → IsErrOf result (Ending.By (Cause.WriteFault doc)) → LeavesFiles (docs_ready ready.now) (outputs_of ready.now).made (D.made desk.old) (D.made desk.new) doc }
+    ensures later { D.faults desk.old ≤ D.faults desk.new }
+{
+    let name = ready.cert.as_str();
+    if name == "-" {
+        return Ok(());
+    }
+    let entries = &ready.plan.entries;
+    match write_cert(alloc, &ready.season, &ready.live, entries, name, desk) {
+        Ok(()) => Ok(()),
+        Err(CertError::Failed) => Err(by(Cause::WriteFault {
+            doc: Doc::Certificate,
+        })),
+        Err(CertError::Memory) => Err(by(Cause::Memory)),
+    }
+}
+
+// Makes the files on the desk, and then writes the report.
+fn write_outputs<D: Desk, O: Sink>(
+    alloc: Global,
+    ready: &Ready,
+    desk: &mut D,
+    out: &mut O,
+) -> Result<(), Ending>
+    requires { IsReady ready.now }
+    ensures ok { OnOk result (Wrote (outputs_of ready.now) (D.made desk.old) (D.made desk.new) (O.written out.old) (O.written out.new)) }
+    ensures none { docs_ready ready.now ≡ [] → desk.new ≡ desk.old }
+    ensures ends { (ending : Ending) → IsErrOf result ending → (ending ≡ Ending.By Cause.Memory) ⊎ ((doc : Doc) × (ending ≡ Ending.By (Cause.WriteFault doc))) }
+    ensures memory { IsErrOf result (Ending.By Cause.Memory) → (O.written out.new ≡ O.written out.old) × (desk.new ≡ desk.old) }
+    ensures failed { (doc : Doc) → IsErrOf result (Ending.By (Cause.WriteFault doc)) → Fails (docs_ready ready.now) (Rose (D.faults desk.old) (D.faults desk.new)) (Rose (O.faults out.old) (O.faults out.new)) doc }
+    ensures leaves { (doc : Doc) → IsErrOf result (Ending.By (Cause.WriteFault doc)) → Leaves (docs_ready ready.now) (outputs_of ready.now) (D.made desk.old) (D.made desk.new) (O.written out.old) (O.written out.new) doc }
+    ensures around { O.around out.new ≡ O.around out.old }
+{
+    write_made(alloc, ready, desk)?;
+    match write_whole(out, &ready.plan.text) {
         Ok(()) => Ok(()),
         Err(_) => Err(by(Cause::WriteFault { doc: Doc::Report })),
     }
 }
 
+// Makes what the words ask ready, and writes it.
+fn work<H: Shelf, D: Desk, O: Sink>(
+    alloc: Global,
+    words: &[String],
+    shelf: &mut H,
+    desk: &mut D,
+    out: &mut O,
+) -> Result<(), Ending>
+    ensures ok { OnOk result (Writes (H.files shelf.old) (map string_bytes words.now) (λ outputs. Wrote outputs (D.made desk.old) (D.made desk.new) (O.written out.old) (O.written out.new))) }
+    ensures passes { OnOk result (IfSome (H.files shelf.old) (λ held. ending_asked held (map string_bytes words.now) ≡ None)) }
+    ensures caused { (ending : Ending) → IsErrOf result ending → Caused (H.files shelf.old) (map string_bytes words.now) (H.taken shelf.new) (Rose (H.faults shelf.old) (H.faults shelf.new)) (Rose (D.faults desk.old) (D.faults desk.new)) (Rose (O.faults out.old) (O.faults out.new)) ending }
+    ensures leaves { (ending : Ending) → IsErrOf result ending → LeavesOutputs (H.files shelf.old) (map string_bytes words.now) (D.made desk.old) (D.made desk.new) (O.written out.old) (O.written out.new) ending }
+    ensures quiet { (ending : Ending) → IsErrOf result ending → ((doc : Doc) → ending ≢ Ending.By (Cause.WriteFault doc)) → (O.written out.new ≡ O.written out.old) × (desk.new ≡ desk.old) }
+    ensures desk { docs_asked (map string_bytes words.now) ≡ [] → desk.new ≡ desk.old }
+    ensures around { O.around out.new ≡ O.around out.old }
+    ensures files { H.files shelf.new ≡ H.files shelf.old }
+    ensures later { H.faults shelf.old ≤ H.faults shelf.new }
+{
+    let ready = prepare(alloc, words, shelf)?;
+    write_outputs(alloc, &ready, desk, out)
+}
+
 /// Does what the words ask; they are the words behind the program's name, read by `clap` as the command with the
 /// required JOB and FOLDER and the options `--steps`, `--step`, `--nodes`, `--cert` and `--seed`. `plan FOLDER` reads the
-/// season of the folder's files from the shelf and writes the plan report: of the bound over all policies that a descent of
+/// season of the folder's files from the shelf, makes the certificate of its plan as a file of the name `--cert` on the
+/// desk, unless the name is `-`, and then writes the plan report: of the bound over all policies that a descent of
 /// `--steps` steps of the size `--step` gives; of the path that a search of `--nodes` tight prefixes finds with the
 /// multipliers of that bound; and, where the season is small enough, of the table for the stocks of all stores. `--seed` has
-/// no effect on a plan, and the desk isn't used.
+/// no effect on a plan.
 ///
-/// The order of the answers is: `Words`; `NotYet` of another job, and then of a certificate; file by file (rules.json,
-/// calendar.csv where the rules say that there is one, ladder.csv, stock.csv, demand.csv) `ReadFault`, `Absent`, `Limit`
-/// where the file is too long, and `Refused`; behind all files `Limit` where the cells are too many; `NoPath` where no
-/// path obeys; `WriteFault`. `Memory` may come anywhere before the first byte of the report is written. For each status
-/// but `Ok` one note goes to `note`.
+/// The order of the answers is: `Words`; `NotYet` of another job; file by file (rules.json, calendar.csv where the rules
+/// say that there is one, ladder.csv, stock.csv, demand.csv) `ReadFault`, `Absent`, `Limit` where the file is too long, and
+/// `Refused`; behind all files `Limit` where the cells are too many; `NoPath` where no path obeys; `WriteFault` of the
+/// certificate, and then of the report. `Memory` may come anywhere before the first byte is written to the desk or the
+/// report. For each status but `Ok` one note goes to `note`.
 pub fn run<H: Shelf, D: Desk, O: Sink, N: Sink>(
     alloc: Global,
     words: &[String],
     shelf: &mut H,
-    _desk: &mut D,
+    desk: &mut D,
     out: &mut O,
     note: &mut N,
 ) -> Status
-    // With `Ok` the report of the folder's season was written, and no note.
-    ensures ok { result ≡ Status.Ok → Reports (H.files shelf.old) (map string_bytes words.now) (λ text. Appends (O.written out.old) (O.written out.new) text) }
+    // With `Ok` all outputs of what is asked were written, and no note: behind the files on the desk stand those that the job
+    // makes, and behind the report's bytes its report.
+    ensures ok { result ≡ Status.Ok → Writes (H.files shelf.old) (map string_bytes words.now) (λ outputs. Wrote outputs (D.made desk.old) (D.made desk.new) (O.written out.old) (O.written out.new)) }
     ensures silent { result ≡ Status.Ok → N.written note.new ≡ N.written note.old }
 
-    // Each other status has its cause, and the note of it was written.
+    // Each other status has its cause, and the note of it was written. After a fault the outputs before the failed one stand
+    // whole, of the failed one a front or no file, and nothing of a later one.
     ensures caused { result ≢ Status.Ok → (ending : Ending) × (result ≡ status_of ending)
-        × Caused (H.files shelf.old) (map string_bytes words.now) (H.taken shelf.new) (H.faults shelf.old) (H.faults shelf.new) (O.faults out.old) (O.faults out.new) ending
+        × Caused (H.files shelf.old) (map string_bytes words.now) (H.taken shelf.new) (Rose (H.faults shelf.old) (H.faults shelf.new)) (Rose (D.faults desk.old) (D.faults desk.new)) (Rose (O.faults out.old) (O.faults out.new)) ending
+        × LeavesOutputs (H.files shelf.old) (map string_bytes words.now) (D.made desk.old) (D.made desk.new) (O.written out.old) (O.written out.new) ending
         × Notes (N.written note.old) (N.written note.new) (N.faults note.old) (N.faults note.new) ending }
-    ensures read { result ≡ Status.ReadFault → Rose (H.faults shelf.old) (H.faults shelf.new) }
-    ensures write { result ≡ Status.WriteFault → Rose (O.faults out.old) (O.faults out.new) }
+    ensures read { result ≡ Status.ReadFault → Rose (H.faults shelf.old) (H.faults shelf.new) × ReadsSeason (map string_bytes words.now) }
+    ensures write { result ≡ Status.WriteFault → (doc : Doc) × Fails (docs_asked (map string_bytes words.now)) (Rose (D.faults desk.old) (D.faults desk.new)) (Rose (O.faults out.old) (O.faults out.new)) doc }
 
     // Where the shelf tells its files, each status that isn't a fault or want of memory comes exactly where the words and the files say so.
     ensures words { result ≡ Status.Words → asked_of (map string_bytes words.now) ≡ None }
-    ensures exact { IfSome (H.files shelf.old) (λ held. Exactly result (planned held (map string_bytes words.now))) }
+    ensures exact { IfSome (H.files shelf.old) (λ held. Exactly result (ending_asked held (map string_bytes words.now))) }
 
-    // What stands afterwards.
-    ensures front { result ≡ Status.WriteFault → Reports (H.files shelf.old) (map string_bytes words.now) (λ text. AddsFront (O.written out.old) (O.written out.new) text) }
-    ensures quiet { result ≢ Status.Ok → result ≢ Status.WriteFault → O.written out.new ≡ O.written out.old }
+    // What is as before.
+    ensures quiet { result ≢ Status.Ok → result ≢ Status.WriteFault → (O.written out.new ≡ O.written out.old) × (desk.new ≡ desk.old) }
+    ensures desk { docs_asked (map string_bytes words.now) ≡ [] → desk.new ≡ desk.old }
     ensures around { O.around out.new ≡ O.around out.old }
     ensures note_around { N.around note.new ≡ N.around note.old }
-    ensures desk { _desk.new ≡ _desk.old }
     ensures files { H.files shelf.new ≡ H.files shelf.old }
     ensures later { H.faults shelf.old ≤ H.faults shelf.new }
 
-    // Where a season is planned and nothing fails, only memory can be wanting.
-    ensures complete { (held : Files) → H.files shelf.old ≡ Some held → IsOk (planned held (map string_bytes words.now))
-        → (Rose (H.faults shelf.old) (H.faults shelf.new) → ⊥) → (Rose (O.faults out.old) (O.faults out.new) → ⊥)
+    // Where the words and the files come to outputs and nothing fails, only memory can be wanting.
+    ensures complete { (held : Files) → H.files shelf.old ≡ Some held → ending_asked held (map string_bytes words.now) ≡ None
+        → (Rose (H.faults shelf.old) (H.faults shelf.new) → ⊥) → (Rose (D.faults desk.old) (D.faults desk.new) → ⊥) → (Rose (O.faults out.old) (O.faults out.new) → ⊥)
         → (result ≡ Status.Ok) ⊎ (result ≡ Status.Memory) }
 {
-    match work(alloc, words, shelf, out) {
+    match work(alloc, words, shelf, desk, out) {
         Ok(()) => Status::Ok,
         Err(ending) => {
             write_note(note, ending);

@@ -2,7 +2,7 @@ use Rattle.std.proofs.Common.{◌≡◌, ◌∙◌, []}
 use Rattle.clr_model.specs.JointValue.{joint_rung_at}
 use Rattle.clr_model.specs.Revenue.{full_stocks}
 use Rattle.clr_top.proofs.Tabled.{first_on_ladder}
-use Rattle.clr_top.proofs.exact.exact_values.Goals as goal
+use Rattle.clr_top.proofs.exact.exact_table.Goals as goal
 
 pub returns-clause-told : goal.returns-clause-told
 returns-clause-told c =

@@ -1,0 +1,55 @@
+-- What is written, and what stands after a fault of an output.
+use Rattle.std.proofs.Common.{◌≡◌, inl, inr, List, ℕ, [], ◌∷◌, true, false, refl, sym, ap, subst, append-nil, Some, None, Option}
+use Rattle.std.specs.Prelude.{◌⊎◌, IfSome}
+use Rattle.clr_io.specs.Files.{Files}
+use Rattle.clr_cert.specs.Writing.{with_file}
+use Rattle.clr_cert.specs.Writing.{AddsFront as AddsFileFront}
+use Rattle.clr_words.specs.declared.asked.Job.TheVariants as j
+use Rattle.clr_report.specs.declared.note.Cause.TheVariants.{Memory, WriteFault}
+use Rattle.clr_report.specs.declared.note.Doc.{Doc}
+use Rattle.clr_report.specs.declared.note.Doc.TheVariants as d
+use Rattle.clr_top.specs.declared.ending.Ending.{Ending}
+use Rattle.clr_top.specs.declared.ending.Ending.TheVariants.{By}
+use Rattle.clr_top.specs.Outputs.{Fails, LeavesFiles, Outputs, with_files}
+use Rattle.clr_top.specs.Plans.{cert_files, no_name}
+use Rattle.clr_top.specs.Runs.{Caused, Writes, docs_asked, docs_by, ending_asked}
+
+-- no files more
+pub with_none : (made : Option Files) → made ≡ with_files made []
+with_none None = refl
+with_none (Some files) = ap Some (sym (append-nil files))
+
+-- ---- the certificate
+
+module _ (cert text : List ℕ) (before now : Option Files) where
+  -- none is asked
+  pub no-cert : no_name cert ≡ true → before ≡ with_files before (cert_files cert text)
+  no-cert none = rw none (with_none before)
+
+  -- one is asked
+  pub cert-made : no_name cert ≡ false → now ≡ with_file before cert text → now ≡ with_files before (cert_files cert text)
+  cert-made named made = rw named made
+
+  pub cert-leaves : no_name cert ≡ false → AddsFileFront before now cert text → LeavesFiles (docs_by j.Plan cert) (cert_files cert text) before now d.Certificate
+  cert-leaves named front = rw named (inl (refl, front))
+
+pub cert-docs : (cert : List ℕ) → no_name cert ≡ false → docs_by j.Plan cert ≡ d.Certificate ∷ []
+cert-docs cert named = rw named refl
+
+-- ---- all outputs
+
+-- what holds of the outputs that stand ready holds of what a whole run writes
+pub written : (files : Option Files) (words : List (List ℕ)) (ready : Outputs) (Holds : Outputs → Type 0) → Writes files words (λ outputs. outputs ≡ ready) → Holds ready → Writes files words Holds
+written files words ready Holds (ask, outputs, asked, gives, is) holds = (ask, outputs, asked, gives, subst Holds (sym is) holds)
+
+-- why outputs that stand ready are not written
+pub writing-caused :
+    (files : Option Files) (words : List (List ℕ)) (taken : ℕ) (ShelfRose DeskRose OutRose : Type 0) (docs : List Doc) (ending : Ending) → docs ≡ docs_asked words → IfSome files (λ held. ending_asked held words ≡ None) →
+    (ending ≡ By Memory) ⊎ ((doc : Doc) × (ending ≡ By (WriteFault doc))) → ((doc : Doc) → ending ≡ By (WriteFault doc) → Fails docs DeskRose OutRose doc) → Caused files words taken ShelfRose DeskRose OutRose ending
+writing-caused files words taken ShelfRose DeskRose OutRose docs ending same passes (inl memory) failed = inl (inl memory)
+writing-caused files words taken ShelfRose DeskRose OutRose docs ending same passes (inr (doc, by)) failed = inr (doc, by, subst (λ named. Fails named DeskRose OutRose doc) same (failed doc by), passes)
+
+-- and where no output failed, what holds after want of memory
+pub writing-memory : (ending : Ending) (Holds : Type 0) → (ending ≡ By Memory) ⊎ ((doc : Doc) × (ending ≡ By (WriteFault doc))) → ((doc : Doc) → ending ≡ By (WriteFault doc) → ⊥) → (ending ≡ By Memory → Holds) → Holds
+writing-memory ending Holds (inl memory) unfailed holds = holds memory
+writing-memory ending Holds (inr (doc, by)) unfailed holds = absurd (unfailed doc by)

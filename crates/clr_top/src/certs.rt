@@ -1,0 +1,177 @@
+// Certificates that a run writes to a desk.
+use crate::cases::{Files, TWO_WEEKS, held, list_of, words_of, write_files};
+use crate::ending::Status;
+use crate::program::run;
+use clr_io::{FileDesk, FileShelf, MemoryDesk, MemoryShelf, MemorySink};
+use std::alloc::{AllocError, Global};
+use std::fs;
+use std::test::Fail;
+
+// The lines of the worked certificate behind its first.
+const LINES: [&str; 34] = [
+    "path,1,2",
+    "m,1,1,0",
+    "m,1,2,0",
+    "m,2,1,0",
+    "m,2,2,0",
+    "l,2,1,0,0,0",
+    "h,2,1,0,0,0",
+    "v,2,1,1,0,1,0,0,0",
+    "v,2,1,2,1,1,0,0,0",
+    "j,2,1,0,1,0,0,0,0",
+    "j,2,1,0,1,1,0,0,0",
+    "j,2,1,0,1,2,0,0,0",
+    "j,2,2,1,1,0,0,0,0",
+    "j,2,2,1,1,1,0,0,0",
+    "j,2,2,1,1,2,0,0,0",
+    "l,1,1,0,400000000,800000000",
+    "h,1,1,0,400000000,800000000",
+    "v,1,1,1,0,1,0,500000000,800000000",
+    "v,1,1,2,1,1,0,400000000,800000000",
+    "j,1,1,0,1,0,1,0,0",
+    "j,1,1,0,1,1,1,500000000,500000000",
+    "j,1,1,0,1,2,2,800000000,800000000",
+    "j,1,2,1,1,0,2,0,0",
+    "j,1,2,1,1,1,2,400000000,400000000",
+    "j,1,2,1,1,2,2,800000000,800000000",
+    "l,0,1,0,700000000,1100000000",
+    "h,0,1,0,700000000,1100000000",
+    "v,0,1,1,0,1,0,750000000,1150000000",
+    "j,0,1,0,1,0,1,0,0",
+    "j,0,1,0,1,1,1,750000000,750000000",
+    "j,0,1,0,1,2,1,1150000000,1150000000",
+    "revenue,1100000000,1100000000",
+    "bound,1150000000",
+    "exact,1150000000,1150000000",
+];
+
+const REPORT: &[u8] =
+    b"season 1 stores 2 weeks 2 rungs base 2\npath 1 2\nprices 10.00 4.00\nrevenue 11.00000000 11.00000000\nbest yes\nbound 11.50000000 step 0\ngap 0.50000000\nexact 11.50000000 11.50000000 first 1\n";
+
+// The text of the certificate behind these first lines.
+fn text_behind(alloc: Global, first: &str) -> Result<Vec<u8>, AllocError> {
+    let mut text = first.as_bytes().to_vec(alloc)?;
+    for line in LINES {
+        text.extend_from_slice(line.as_bytes())?;
+        text.extend_from_slice(b"\n")?;
+    }
+    Ok(text)
+}
+
+// What a run answered, and what stands on its desk and sinks.
+#[derive(Drop)]
+struct Certified {
+    status: Status,
+    desk: MemoryDesk,
+    out: MemorySink,
+    note: MemorySink,
+}
+
+impl Certified {
+    // One file of this name with these bytes was made.
+    fn made(&self, name: &str, bytes: &[u8]) -> bool {
+        self.desk.count() == 1 && self.desk.name(0) == name && self.desk.bytes(0) == bytes
+    }
+
+    // The certificate failed: the report is empty, and the note tells it.
+    fn failed(&self) -> bool {
+        self.status == Status::WriteFault
+            && self.out.bytes().is_empty()
+            && self.note.bytes() == b"write fault: certificate\n".as_slice()
+    }
+}
+
+// The plan with a certificate `c`, on this desk and with these faults of the report's sink.
+fn certify(
+    alloc: Global,
+    files: Files<'_>,
+    mut desk: MemoryDesk,
+    fail: &[u64],
+) -> Result<Certified, AllocError> {
+    let words = words_of(alloc, &["plan", "f", "--cert", "c"])?;
+    let mut shelf = MemoryShelf::new(held(alloc, files, 0)?, 64, Vec::new(alloc));
+    let mut out = MemorySink::new(alloc, 4096, 16, list_of(alloc, fail)?)?;
+    let mut note = MemorySink::new(alloc, 256, 7, Vec::new(alloc))?;
+    let status = run(alloc, &words, &mut shelf, &mut desk, &mut out, &mut note);
+    Ok(Certified {
+        status,
+        desk,
+        out,
+        note,
+    })
+}
+
+#[test]
+fn certificates_are_written(rt: HostRuntime) -> Result<(), Fail> {
+    let alloc = rt.alloc();
+    let text = text_behind(alloc, "clearance certificate 1\n")?;
+    for piece in [65_536, 7] {
+        let desk = MemoryDesk::new(alloc, 1, 4096, piece, Vec::new(alloc))?;
+        let answer = certify(alloc, TWO_WEEKS, desk, &[])?;
+        assert!(rt;
+            answer.status == Status::Ok && answer.note.bytes().is_empty(),
+            "{piece}"
+        );
+        assert!(rt; answer.made("c", &text), "{piece}");
+        assert!(rt; answer.out.bytes() == REPORT, "{piece}");
+    }
+    Ok(())
+}
+
+#[test]
+fn long_heads_are_written(rt: HostRuntime) -> Result<(), Fail> {
+    let alloc = rt.alloc();
+    let files = Files {
+        rules: b"{\"version\":3,\"weeks\":2,\"base\":2}",
+        stock: b"store,units,salvage,relabel\na,2,0,0\n",
+        ..TWO_WEEKS
+    };
+    let text = text_behind(alloc, "clearance certificate 2\nlengths,36,1,2,2\n")?;
+    let desk = MemoryDesk::new(alloc, 1, 4096, 65_536, Vec::new(alloc))?;
+    let answer = certify(alloc, files, desk, &[])?;
+    assert!(rt; answer.status == Status::Ok && answer.made("c", &text));
+    Ok(())
+}
+
+#[test]
+fn desks_fail(rt: HostRuntime) -> Result<(), Fail> {
+    let alloc = rt.alloc();
+    let text = text_behind(alloc, "clearance certificate 1\n")?;
+    let desk = MemoryDesk::new(alloc, 1, 4096, 65_536, list_of(alloc, &[1])?)?;
+    let no_file = certify(alloc, TWO_WEEKS, desk, &[])?;
+    assert!(rt; no_file.failed() && no_file.desk.count() == 0);
+    // The room ends in the midst of the text.
+    let desk = MemoryDesk::new(alloc, 1, 100, 65_536, Vec::new(alloc))?;
+    let no_room = certify(alloc, TWO_WEEKS, desk, &[])?;
+    assert!(rt; no_room.failed() && no_room.made("c", &text[..100]));
+    // A fault of the report leaves the certificate whole.
+    let desk = MemoryDesk::new(alloc, 1, 4096, 65_536, Vec::new(alloc))?;
+    let no_report = certify(alloc, TWO_WEEKS, desk, &[3])?;
+    assert!(rt; no_report.status == Status::WriteFault && no_report.made("c", &text));
+    assert!(rt; no_report.note.bytes() == b"write fault: report\n".as_slice());
+    assert!(rt; no_report.out.bytes() == &REPORT[..32]);
+    Ok(())
+}
+
+#[test]
+fn certificates_stand_in_real_folders(rt: HostRuntime) -> Result<(), Fail> {
+    let alloc = rt.alloc();
+    fs::create_dir(&rt, "certified")?;
+    write_files(&rt, alloc, "certified", TWO_WEEKS)?;
+    let words = words_of(alloc, &["plan", "certified", "--cert", "certified/c"])?;
+    let mut shelf = FileShelf::new(&rt);
+    let mut desk = FileDesk::new(&rt);
+    let mut out = MemorySink::new(alloc, 4096, 16, Vec::new(alloc))?;
+    let mut note = MemorySink::new(alloc, 256, 7, Vec::new(alloc))?;
+    let status = run(alloc, &words, &mut shelf, &mut desk, &mut out, &mut note);
+    assert!(rt; status == Status::Ok && out.bytes() == REPORT);
+    let text = text_behind(alloc, "clearance certificate 1\n")?;
+    assert!(rt; fs::read(&rt, "certified/c")?.as_slice() == text.as_slice());
+    // A folder that isn't there holds no certificate.
+    let words = words_of(alloc, &["plan", "certified", "--cert", "certified/no/c"])?;
+    let mut empty = MemorySink::new(alloc, 4096, 16, Vec::new(alloc))?;
+    let status = run(alloc, &words, &mut shelf, &mut desk, &mut empty, &mut note);
+    assert!(rt; status == Status::WriteFault && empty.bytes().is_empty());
+    assert!(rt; note.bytes() == b"write fault: certificate\n".as_slice());
+    Ok(())
+}
