@@ -1,0 +1,6 @@
+pub mod Told
+pub mod Paths
+pub mod Bounds
+pub mod Joints
+pub mod Proved
+pub mod Refused
