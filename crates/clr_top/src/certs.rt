@@ -68,9 +68,17 @@ struct Certified {
 }
 
 impl Certified {
+    // One file of this name was made, with a front of so many of these bytes.
+    fn made_front(&self, name: &str, bytes: &[u8], count: usize) -> bool {
+        self.desk.count() == 1
+            && self.desk.name(0) == name
+            && self.desk.bytes(0).len() == count
+            && bytes.starts_with(self.desk.bytes(0))
+    }
+
     // One file of this name with these bytes was made.
     fn made(&self, name: &str, bytes: &[u8]) -> bool {
-        self.desk.count() == 1 && self.desk.name(0) == name && self.desk.bytes(0) == bytes
+        self.made_front(name, bytes, bytes.len())
     }
 
     // The certificate failed: the report is empty, and the note tells it.
@@ -143,8 +151,15 @@ fn desks_fail(rt: HostRuntime) -> Result<(), Fail> {
     // The room ends in the midst of the text.
     let desk = MemoryDesk::new(alloc, 1, 100, 65_536, Vec::new(alloc))?;
     let no_room = certify(alloc, TWO_WEEKS, desk, &[])?;
-    assert!(rt; no_room.failed() && no_room.made("c", &text[..100]));
-    // A fault of the report leaves the certificate whole.
+    assert!(rt; no_room.failed() && no_room.made_front("c", &text, 100));
+    Ok(())
+}
+
+// A fault of the report leaves the certificate whole.
+#[test]
+fn reports_fail_behind_certificates(rt: HostRuntime) -> Result<(), Fail> {
+    let alloc = rt.alloc();
+    let text = text_behind(alloc, "clearance certificate 1\n")?;
     let desk = MemoryDesk::new(alloc, 1, 4096, 65_536, Vec::new(alloc))?;
     let no_report = certify(alloc, TWO_WEEKS, desk, &[3])?;
     assert!(rt; no_report.status == Status::WriteFault && no_report.made("c", &text));
