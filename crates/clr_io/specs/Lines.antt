@@ -52,6 +52,10 @@ pub record IsNext (longest : ℕ) (bytes : List ℕ) (line : Line) (given bytes'
 abbrev pub Answers : Reading → Option (List ℕ) → Line → Reading → Option (List ℕ) → Type 0
 Answers old rest line new rest' = new.taken ≤ new.max → IfSome rest (λ behind. IsSomeAnd rest' (λ behind'. IsNext old.longest (old.held ++ behind) line new.given (new.held ++ behind')))
 
+-- Where it is told, every byte that was taken comes from the rest of the file.
+abbrev pub Counts : Reading → Option (List ℕ) → Reading → Option (List ℕ) → Type 0
+Counts old rest new rest' = IfSome rest (λ behind. IsSomeAnd rest' (λ behind'. new.taken + length behind' ≡ old.taken + length behind))
+
 -- A line that is given isn't too long, and has no line feed.
 abbrev pub IsShort : ℕ → List ℕ → Type 0
 IsShort longest line = (length line ≤ longest) × (has_feed line ≡ false)

@@ -2,7 +2,7 @@
 ghost use Rattle.std.specs.Prelude.{◌≡◌, ◌+◌, ◌^◌, ◌<◌, ◌≤◌, ◌↔◌, ◌||◌, ◌==◌, [], false, true, drop, take, length, nat_lt, position, if◌then◌else◌, IfOk, MatchOption, MatchResult, Ok, OnErr};
 ghost use Rattle.std.specs.Io.KnownBytes.{IsAtEnd};
 ghost use Rattle.clr_io.specs.Causes.{HasCause, Rose};
-ghost use Rattle.clr_io.specs.Lines.{Answers, GivesShort, IsFeedAt, IsSame, TakesSome, ends, has_feed, is_feed};
+ghost use Rattle.clr_io.specs.Lines.{Answers, Counts, GivesShort, IsFeedAt, IsSame, TakesSome, ends, has_feed, is_feed};
 ghost use Rattle.clr_io.specs.ReadBuffer.{TakesPiece};
 
 use crate::read_buffer::{PIECE, ReadBuffer};
@@ -114,6 +114,7 @@ impl Lines {
         requires taken { H.taken shelf.old ≡ self.old.taken }
         requires goes_on { self.old.ended ≡ false }
         ensures answers { IfOk result (λ line. Answers self.old (H.rest shelf.old) line self.new (H.rest shelf.new)) }
+        ensures counts { IfOk result (λ _. Counts self.old (H.rest shelf.old) self.new (H.rest shelf.new)) }
         ensures over { (result ≡ Ok Line.Over) ↔ (self.new.max < self.new.taken) }
         ensures short { IfOk result (λ line. GivesShort line self.new) }
         ensures some { IfOk result (λ line. TakesSome self.old line self.new) }
@@ -137,6 +138,7 @@ impl Lines {
         requires goes_on { self.old.ended ≡ false }
         requires no_feed { has_feed self.old.held ≡ false }
         ensures answers { IfOk result (λ line. Answers self.old (H.rest shelf.old) line self.new (H.rest shelf.new)) }
+        ensures counts { IfOk result (λ _. Counts self.old (H.rest shelf.old) self.new (H.rest shelf.new)) }
         ensures over { (result ≡ Ok Line.Over) ↔ (self.new.max < self.new.taken) }
         ensures short { IfOk result (λ line. GivesShort line self.new) }
         ensures some { IfOk result (λ line. TakesSome self.old line self.new) }

@@ -7,6 +7,8 @@ mod averages;
 #[cfg(test)]
 mod edges;
 #[cfg(test)]
+mod lines;
+#[cfg(test)]
 mod multipliers;
 #[cfg(test)]
 mod numbers;
