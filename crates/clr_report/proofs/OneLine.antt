@@ -1,19 +1,23 @@
 -- A note is one line.
-use Rattle.std.proofs.Common.{◌≡◌, ℕ, ◌+◌, ◌-◌, ◌/◌, ◌%◌, ◌<◌, zero, suc, true, false, List, [], ◌∷◌, ◌++◌, length, get_or, codes, decimal, arith}
-use Rattle.std.specs.Fmt.{digits, digit_glyph, digits_onto}
+use Rattle.std.proofs.Common.{◌≡◌, ℕ, ◌+◌, ◌-◌, ◌/◌, ◌%◌, ◌<◌, zero, suc, ℤ, pos, negsuc, true, false, List, [], ◌∷◌, ◌++◌, length, get_or, codes, decimal, arith}
+use Rattle.std.specs.Fmt.{digits, digit_glyph, digits_onto, signed_decimal}
 use Rattle.std.specs.List.{AllByRecursion}
 use Rattle.std.specs.Prelude.{if◌then◌else◌, nat_lt, ◌==◌}
 use Rattle.std.proofs.lemmas.List.{get_or_append_left, get_or_push, length_push}
 use Rattle.clr_num.proofs.Fields.{Above, above-append}
 use Rattle.clr_text.specs.declared.file.Why.{Why}
 use Rattle.clr_text.specs.declared.file.Why.TheVariants.{Header, Fields, Number, Money, Name, Range, Order, Unknown, Repeat, Count, Total, Json, Field, Missing}
+use Rattle.clr_rules.specs.declared.season_rules.Rule.{Rule}
+use Rattle.clr_rules.specs.declared.season_rules.Rule.TheVariants as r
+use Rattle.clr_cert.specs.declared.no.NoKind.{NoKind}
+use Rattle.clr_cert.specs.declared.no.NoKind.TheVariants as k
 use Rattle.clr_report.specs.declared.note.Doc.{Doc}
 use Rattle.clr_report.specs.declared.note.Doc.TheVariants.{Rules, Calendar, Ladder, Stock, Demand, Certificate, Policy, Report}
 use Rattle.clr_report.specs.declared.note.Cause.{Cause}
-use Rattle.clr_report.specs.declared.note.Cause.TheVariants.{Words, Refused, NoPath, ReadFault, Absent, WriteFault, TooLong, Cells, Memory}
+use Rattle.clr_report.specs.declared.note.Cause.TheVariants.{Words, Refused, NoPath, ReadFault, Absent, WriteFault, TooLong, Cells, Size, Base, CertificateNo, PolicyJson, PolicyShape, PolicyUnknown, PolicyRule, Memory}
 use Rattle.clr_report.specs.Columns.{column_text, columns_of, doc_text}
 use Rattle.clr_report.specs.Lines.{line, words_joined, IsLine}
-use Rattle.clr_report.specs.NoteText.{field_words, note_text_of, note_words, refusal_words}
+use Rattle.clr_report.specs.NoteText.{branch_words, field_words, no_words, note_text_of, note_words, refusal_words, rule_text, sides_words}
 
 -- ---- words without line feeds make one line
 
@@ -114,6 +118,40 @@ refusal_printed doc row column Json = (omega arith, tt)
 refusal_printed doc row column Field = (omega arith, tt)
 refusal_printed doc row column Missing = field_printed doc row column (codes "missing") (omega arith)
 
+signed_printed : (z : ℤ) → Above 31 (signed_decimal z)
+signed_printed (pos n) = decimal_printed n
+signed_printed (negsuc n) = (omega arith, decimal_printed (suc n))
+
+sides_printed : (kind : List ℕ) (left right : ℤ) → Above 31 kind → ArePrinted (sides_words kind left right)
+sides_printed kind left right h = (h, (signed_printed left, (signed_printed right, tt)))
+
+no_printed : (kind : NoKind) (left right : ℤ) → ArePrinted (no_words kind left right)
+unfolding no_words
+no_printed k.Form left right = (omega arith, tt)
+no_printed k.Range left right = (omega arith, tt)
+no_printed k.Short left right = (omega arith, tt)
+no_printed k.Extra left right = (omega arith, tt)
+no_printed k.Path left right = sides_printed (codes "path") left right (omega arith)
+no_printed k.Sum left right = sides_printed (codes "sum") left right (omega arith)
+no_printed k.Low left right = sides_printed (codes "low") left right (omega arith)
+no_printed k.High left right = sides_printed (codes "high") left right (omega arith)
+no_printed k.Value left right = sides_printed (codes "value") left right (omega arith)
+no_printed k.Rung left right = sides_printed (codes "rung") left right (omega arith)
+no_printed k.JointLow left right = sides_printed (codes "jointlow") left right (omega arith)
+no_printed k.JointTop left right = sides_printed (codes "jointtop") left right (omega arith)
+no_printed k.Total left right = sides_printed (codes "total") left right (omega arith)
+
+rule_printed : (rule : Rule) → Above 31 (rule_text rule)
+rule_printed r.Rise = omega arith
+rule_printed r.Window = omega arith
+rule_printed r.Frozen = omega arith
+rule_printed r.Number = omega arith
+rule_printed r.Spacing = omega arith
+rule_printed r.FirstCut = omega arith
+
+branch_printed : (branch : ℕ) (why : List ℕ) → Above 31 why → ArePrinted (branch_words branch why)
+branch_printed branch why h = (omega arith, (decimal_printed branch, (h, tt)))
+
 note_printed : (cause : Cause) → ArePrinted (note_words cause)
 unfolding note_words
 note_printed Words = (omega arith, tt)
@@ -124,6 +162,13 @@ note_printed (Absent doc) = (omega arith, (doc_printed doc, tt))
 note_printed (WriteFault doc) = (omega arith, (doc_printed doc, tt))
 note_printed (TooLong doc max) = (omega arith, (doc_printed doc, (omega arith, (decimal_printed max, tt))))
 note_printed (Cells found) = (omega arith, (decimal_printed found, tt))
+note_printed (Size found) = (omega arith, (decimal_printed found, tt))
+note_printed Base = (omega arith, tt)
+note_printed (CertificateNo reason) = (omega arith, (decimal_printed reason.row, no_printed reason.kind reason.left reason.right))
+note_printed PolicyJson = (omega arith, tt)
+note_printed (PolicyShape branch) = branch_printed branch (codes "shape") (omega arith)
+note_printed (PolicyUnknown branch) = branch_printed branch (codes "unknown") (omega arith)
+note_printed (PolicyRule branch rule) = branch_printed branch (rule_text rule) (rule_printed rule)
 note_printed Memory = (omega arith, tt)
 
 pub note_is_line : (cause : Cause) → IsLine (note_text_of cause)

@@ -1,4 +1,5 @@
 pub mod Lines
 pub mod PlanText
+pub mod JudgeText
 pub mod Columns
 pub mod NoteText

@@ -2,10 +2,13 @@
 #![tactic(auto)]
 
 mod columns;
+mod judge;
 mod note;
 mod pieces;
 mod plan;
 mod refusal;
+mod verdict;
 
+pub use judge::judge_text;
 pub use note::{Cause, Doc, note_text};
 pub use plan::{PlanFacts, plan_text, plan_text_determines};

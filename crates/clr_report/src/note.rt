@@ -6,8 +6,11 @@ ghost use Rattle.clr_report.specs.Lines.{words_joined, IsLine};
 ghost use Rattle.clr_report.specs.NoteText.{note_text_of, note_words};
 ghost use Rattle.std.specs.Prelude.{◌≡◌, ◌+◌, ◌≤◌, [], ◌∷◌, codes, decimal, length, take};
 
-use crate::pieces::{put, put_labelled_wide, put_number, put_word};
+use crate::pieces::{put, put_count, put_labelled_wide, put_word};
 use crate::refusal::{Place, put_refusal};
+use crate::verdict::{put_branch, put_no, rule_name};
+use clr_cert::No;
+use clr_rules::Rule;
 use clr_text::Why;
 
 /// A document that the program reads or writes.
@@ -95,6 +98,37 @@ pub enum Cause {
         /// The number of cells.
         found: u64,
     },
+    /// A policy is too large to be judged.
+    Size {
+        /// Its size.
+        found: u64,
+    },
+    /// The base of the weights, to the number of stores, is too great for a policy to be judged.
+    Base,
+    /// A certificate is refused.
+    CertificateNo {
+        /// Where and why.
+        no: No,
+    },
+    /// The policy file is no JSON text.
+    PolicyJson,
+    /// A policy isn't in the form.
+    PolicyShape {
+        /// The branch, from 1 in the order in which they end.
+        branch: u32,
+    },
+    /// A policy asks for a store that the season doesn't have.
+    PolicyUnknown {
+        /// The branch, from 1 in the order in which they end.
+        branch: u32,
+    },
+    /// A branch of a policy breaks a rule.
+    PolicyRule {
+        /// The branch, from 1 in the order in which they end.
+        branch: u32,
+        /// The rule.
+        rule: Rule,
+    },
     /// There was not enough memory.
     Memory,
 }
@@ -134,7 +168,14 @@ fn put_cause(cause: Cause, out: &mut [u8; 256]) -> usize
         Cause::Absent { doc } => put_doc(b"absent:", doc, out),
         Cause::WriteFault { doc } => put_doc(b"write fault:", doc, out),
         Cause::TooLong { doc, max } => put_too_long(doc, max, out),
-        Cause::Cells { found } => put_cells(found, out),
+        Cause::Cells { found } => put_count(b"limit: cells", found, out),
+        Cause::Size { found } => put_count(b"limit: policy size", found, out),
+        Cause::Base => put(b"limit: base", 0, out),
+        Cause::CertificateNo { no } => put_no(no, out),
+        Cause::PolicyJson => put(b"policy no: json", 0, out),
+        Cause::PolicyShape { branch } => put_branch(branch, b"shape", out),
+        Cause::PolicyUnknown { branch } => put_branch(branch, b"unknown", out),
+        Cause::PolicyRule { branch, rule } => put_branch(branch, rule_name(rule).as_bytes(), out),
         Cause::Memory => put(b"memory", 0, out),
     }
 }
@@ -157,15 +198,6 @@ fn put_too_long(doc: Doc, max: u64, out: &mut [u8; 256]) -> usize
 {
     let end = put_doc(b"limit:", doc, out);
     put_labelled_wide(b"longer than", max, end, out)
-}
-
-/// Writes that a season has too many cells.
-fn put_cells(found: u64, out: &mut [u8; 256]) -> usize
-    ensures end { result ≤ 200 }
-    ensures text { take result out.new ≡ words_joined (codes "limit: cells" ∷ decimal found ∷ []) }
-{
-    let end = put(b"limit: cells", 0, out);
-    put_number(found, end, out)
 }
 
 /// Writes a phrase and the name of a document.

@@ -4,7 +4,8 @@
 //! and gives where the text ends then.
 #![tactic(auto, using(crate::proofs::Spaced::word_after))]
 
-ghost use Rattle.clr_report.specs.Lines.{spaced};
+ghost use Rattle.clr_report.specs.Lines.{spaced, words_joined};
+ghost use Rattle.std.specs.Fmt.{signed_decimal};
 ghost use Rattle.std.specs.Prelude.{◌≡◌, ◌+◌, ◌≤◌, [], ◌∷◌, ◌++◌, decimal, length, take};
 
 use itoa::Buffer;
@@ -38,6 +39,26 @@ pub(crate) fn put_number(number: u64, at: usize, out: &mut [u8; 256]) -> usize
 {
     let mut digits = Buffer::new();
     put_word(digits.format(number).as_bytes(), at, out)
+}
+
+/// Writes a number of either sign after a space, decimal without leading zeros.
+pub(crate) fn put_signed(number: i128, at: usize, out: &mut [u8; 256]) -> usize
+    requires { at ≤ 200 }
+    ensures end { result ≤ at + 41 }
+    ensures text { take result out.new ≡ take at out.old ++ spaced (signed_decimal number ∷ []) }
+{
+    let mut digits = Buffer::new();
+    put_word(digits.format(number).as_bytes(), at, out)
+}
+
+/// Writes a phrase at the front, and a number after a space.
+pub(crate) fn put_count(phrase: &[u8], number: u64, out: &mut [u8; 256]) -> usize
+    requires { length phrase.now ≤ 150 }
+    ensures end { result ≤ length phrase.now + 21 }
+    ensures text { take result out.new ≡ words_joined (phrase.now ∷ decimal number ∷ []) }
+{
+    let end = put(phrase, 0, out);
+    put_number(number, end, out)
 }
 
 /// Writes a label and its number, each after a space.

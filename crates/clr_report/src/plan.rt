@@ -71,7 +71,7 @@ pub fn plan_text_determines()
 {}
 
 /// The sizes of a season.
-fn sizes_of(season: &Season) -> PlanSizes
+pub(crate) fn sizes_of(season: &Season) -> PlanSizes
     ensures { result ≡ sizes_of season.now }
 {
     PlanSizes {
@@ -113,7 +113,7 @@ fn print_head(
 }
 
 /// Appends the line on the sizes.
-fn print_season(sizes: PlanSizes, out: &mut Vec<u8>) -> Result<(), AllocError>
+pub(crate) fn print_season(sizes: PlanSizes, out: &mut Vec<u8>) -> Result<(), AllocError>
     ensures { OnOk result (out.new.items ≡ out.old.items ++ season_line sizes) }
 {
     print_size(b"season ", sizes.stores, out)?;
@@ -168,7 +168,7 @@ fn print_cents_of(prices: &[u64], out: &mut Vec<u8>) -> Result<(), AllocError>
 }
 
 /// Appends the line on the path's revenue, in units of 10^-8 of the currency.
-fn print_revenue(low: i128, high: i128, out: &mut Vec<u8>) -> Result<(), AllocError>
+pub(crate) fn print_revenue(low: i128, high: i128, out: &mut Vec<u8>) -> Result<(), AllocError>
     ensures { OnOk result (out.new.items ≡ out.old.items ++ revenue_line low high) }
 {
     print_amount(b"revenue ", low, out)?;

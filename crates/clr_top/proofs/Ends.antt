@@ -11,7 +11,7 @@ use Rattle.clr_rules.proofs.FirstPaths.{some_or_none_obeys_lem}
 use Rattle.clr_season.specs.Reads.{Stop, absent, refused, season_in, too_long, too_many_cells}
 use Rattle.clr_season.specs.Season.{IsSeason, Season}
 use Rattle.clr_season.specs.declared.reads.SeasonError.TheVariants as e
-use Rattle.clr_report.specs.declared.note.Cause.TheVariants.{Words, Refused, NoPath, ReadFault, Absent, WriteFault, TooLong, Cells, Memory}
+use Rattle.clr_report.specs.declared.note.Cause.TheVariants.{Words, Refused, NoPath, ReadFault, Absent, WriteFault, TooLong, Cells, Size, Base, CertificateNo, PolicyJson, PolicyShape, PolicyUnknown, PolicyRule, Memory}
 use Rattle.clr_report.specs.declared.note.Doc.{Doc}
 use Rattle.clr_top.specs.declared.ending.Ending.{Ending}
 use Rattle.clr_top.specs.declared.ending.Ending.TheVariants.{By, NotYet}
@@ -34,6 +34,9 @@ StopsBySeason job = (held : Files) (ask : Ask) (stop : Stop) → ask.job ≡ job
 pub plan-stops : StopsBySeason j.Plan
 plan-stops held ask stop plan is = rw (plan, is) refl
 
+pub judge-stops : StopsBySeason j.Judge
+judge-stops held ask stop judge is = subst (λ job. job_ends job held ask ≡ Some (stopped stop)) (sym judge) (rw is refl)
+
 by-files : (job : Job) → StopsBySeason job → (files : Option Files) (ask : Ask) (stop : Stop) → ask.job ≡ job → IfSome files (λ held. season_in held ask.folder ≡ Err stop) → ByFiles files ask (stopped stop)
 by-files job stops None ask stop of is = tt
 by-files job stops (Some held) ask stop of is = stops held ask stop of is
@@ -43,7 +46,7 @@ not-make job given is other = λ make. other (sym is ∙ make)
 
 -- an error of the season that is asked, and why the run ends by it
 pub season-error : (job : Job) → StopsBySeason job → job ≢ j.Make → (files : Option Files) (ask : Ask) (taken : ℕ) (ShelfRose : Type 0) (ending : Ending) → ask.job ≡ job → IsSeasonError files ask.folder taken ShelfRose ending → ReadEnds files ask taken ShelfRose ending
-season-error job stops reads files ask taken ShelfRose ending of (e.Read file, by, given, rose, long) = rw by (rose file refl, (not-make ask.job job of reads, (file, refl, given)))
+season-error job stops reads files ask taken ShelfRose ending of (e.Read file, by, given, rose, long) = rw by (rose file refl, (not-make ask.job job of reads, inl (file, refl, given)))
 season-error job stops reads files ask taken ShelfRose ending of (e.Absent file, by, given, rose, long) = rw by (by-files job stops files ask (absent file) of given)
 season-error job stops reads files ask taken ShelfRose ending of (e.TooLong file, by, given, rose, long) = rw by (long file refl, by-files job stops files ask (too_long file) of given)
 season-error job stops reads files ask taken ShelfRose ending of (e.Refused file row column why, by, given, rose, long) =
@@ -99,6 +102,13 @@ write-status (By (Absent doc)) is = cc
 write-status (By (WriteFault doc)) is = (doc, refl)
 write-status (By (TooLong doc max)) is = cc
 write-status (By (Cells found)) is = cc
+write-status (By (Size found)) is = cc
+write-status (By Base) is = cc
+write-status (By (CertificateNo reason)) is = cc
+write-status (By PolicyJson) is = cc
+write-status (By (PolicyShape branch)) is = cc
+write-status (By (PolicyUnknown branch)) is = cc
+write-status (By (PolicyRule branch rule)) is = cc
 write-status (By Memory) is = cc
 write-status NotYet is = cc
 
@@ -117,6 +127,13 @@ read-ends files ask taken ShelfRose (By (Absent doc)) is ends = cc
 read-ends files ask taken ShelfRose (By (WriteFault doc)) is ends = cc
 read-ends files ask taken ShelfRose (By (TooLong doc max)) is ends = cc
 read-ends files ask taken ShelfRose (By (Cells found)) is ends = cc
+read-ends files ask taken ShelfRose (By (Size found)) is ends = cc
+read-ends files ask taken ShelfRose (By Base) is ends = cc
+read-ends files ask taken ShelfRose (By (CertificateNo reason)) is ends = cc
+read-ends files ask taken ShelfRose (By PolicyJson) is ends = cc
+read-ends files ask taken ShelfRose (By (PolicyShape branch)) is ends = cc
+read-ends files ask taken ShelfRose (By (PolicyUnknown branch)) is ends = cc
+read-ends files ask taken ShelfRose (By (PolicyRule branch rule)) is ends = cc
 read-ends files ask taken ShelfRose (By Memory) is ends = cc
 read-ends files ask taken ShelfRose NotYet is ends = cc
 
@@ -138,6 +155,13 @@ words-end files ask taken ShelfRose (By (Absent doc)) is ends = cc
 words-end files ask taken ShelfRose (By (WriteFault doc)) is ends = cc
 words-end files ask taken ShelfRose (By (TooLong doc max)) is ends = cc
 words-end files ask taken ShelfRose (By (Cells found)) is ends = cc
+words-end files ask taken ShelfRose (By (Size found)) is ends = cc
+words-end files ask taken ShelfRose (By Base) is ends = cc
+words-end files ask taken ShelfRose (By (CertificateNo reason)) is ends = cc
+words-end files ask taken ShelfRose (By PolicyJson) is ends = cc
+words-end files ask taken ShelfRose (By (PolicyShape branch)) is ends = cc
+words-end files ask taken ShelfRose (By (PolicyUnknown branch)) is ends = cc
+words-end files ask taken ShelfRose (By (PolicyRule branch rule)) is ends = cc
 words-end files ask taken ShelfRose (By Memory) is ends = cc
 words-end files ask taken ShelfRose NotYet is ends = cc
 
@@ -163,11 +187,11 @@ memory-wanting (Some ending) = inr (inr refl)
 plan-dead : (given : Result Season Stop) (season : Season) → given ≡ Ok season → NoPathObeys season.rules → season_ends plan_ends given ≡ Some (By NoPath)
 plan-dead given season is none = let dead : is_live season.rules [] ≡ false = (some_or_none_obeys_lem season.rules).none.1 none in rw (is, dead) refl
 
-job-waits : (held : Files) (job : Job) (ask : Ask) → job ≢ j.Plan → job_ends job held ask ≡ Some NotYet
-job-waits held j.Plan ask other = absurd (other refl)
-job-waits held j.Check ask other = refl
-job-waits held j.Judge ask other = refl
-job-waits held j.Make ask other = refl
+job-waits : (held : Files) (job : Job) (ask : Ask) → job ≢ j.Plan → job ≢ j.Judge → job_ends job held ask ≡ Some NotYet
+job-waits held j.Plan ask other judged = absurd (other refl)
+job-waits held j.Check ask other judged = refl
+job-waits held j.Judge ask other judged = absurd (judged refl)
+job-waits held j.Make ask other judged = refl
 
 exactly-read : (held : Files) (ask : Ask) (taken : ℕ) (ShelfRose : Type 0) (ending : Ending) → ReadEnds (Some held) ask taken ShelfRose ending → Exactly (status_of ending) (ends_by held ask)
 exactly-read held ask taken ShelfRose (By Words) ends = absurd ends
@@ -178,8 +202,15 @@ exactly-read held ask taken ShelfRose (By (Absent doc)) ends = exactly-of s.Abse
 exactly-read held ask taken ShelfRose (By (WriteFault doc)) ends = absurd ends
 exactly-read held ask taken ShelfRose (By (TooLong doc max)) ends = exactly-of s.Limit (ends_by held ask) (By (TooLong doc max)) ends.1 refl
 exactly-read held ask taken ShelfRose (By (Cells found)) ends = exactly-of s.Limit (ends_by held ask) (By (Cells found)) ends refl
+exactly-read held ask taken ShelfRose (By (Size found)) ends = exactly-of s.Limit (ends_by held ask) (By (Size found)) ends refl
+exactly-read held ask taken ShelfRose (By Base) ends = exactly-of s.Limit (ends_by held ask) (By Base) ends refl
+exactly-read held ask taken ShelfRose (By (CertificateNo reason)) ends = exactly-of s.CertificateNo (ends_by held ask) (By (CertificateNo reason)) ends refl
+exactly-read held ask taken ShelfRose (By PolicyJson) ends = exactly-of s.PolicyNo (ends_by held ask) (By PolicyJson) ends refl
+exactly-read held ask taken ShelfRose (By (PolicyShape branch)) ends = exactly-of s.PolicyNo (ends_by held ask) (By (PolicyShape branch)) ends refl
+exactly-read held ask taken ShelfRose (By (PolicyUnknown branch)) ends = exactly-of s.PolicyNo (ends_by held ask) (By (PolicyUnknown branch)) ends refl
+exactly-read held ask taken ShelfRose (By (PolicyRule branch rule)) ends = exactly-of s.PolicyNo (ends_by held ask) (By (PolicyRule branch rule)) ends refl
 exactly-read held ask taken ShelfRose (By Memory) ends = memory-wanting (ends_by held ask)
-exactly-read held ask taken ShelfRose NotYet ends = exactly-of s.NotYet (ends_by held ask) NotYet (job-waits held ask.job ask ends) refl
+exactly-read held ask taken ShelfRose NotYet ends = exactly-of s.NotYet (ends_by held ask) NotYet (job-waits held ask.job ask ends.0 ends.1) refl
 
 no-words : (held : Files) (words : List (List ℕ)) → asked_of words ≡ None → ending_asked held words ≡ Some (By Words)
 no-words held words none = rw none refl

@@ -1,7 +1,9 @@
 pub mod Asking
 pub mod Certifying
 pub mod Ends
+pub mod Further
 pub mod JointAsking
+pub mod Judged
 pub mod Reporting
 pub mod Tabled
 pub mod Writing

@@ -1,5 +1,5 @@
 -- What stands ready to be written.
-use Rattle.std.specs.Prelude.{◌≡◌, List, string_bytes}
+use Rattle.std.specs.Prelude.{◌≡◌, List, [], string_bytes}
 use Rattle.clr_cert.specs.Lines.{cert_text}
 use Rattle.clr_report.specs.declared.note.Doc.{Doc}
 use Rattle.clr_rules.specs.FirstPath.{SomePathObeys}
@@ -9,18 +9,38 @@ use Rattle.clr_top.specs.Held.{IsWhole, entries_of}
 use Rattle.clr_top.specs.Outputs.{Outputs}
 use Rattle.clr_top.specs.Plans.{cert_files}
 use Rattle.clr_top.specs.Runs.{docs_by}
+use Rattle.clr_top.specs.declared.program.PlanReady.{PlanReady}
 use Rattle.clr_top.specs.declared.program.Ready.{Ready}
+use Rattle.clr_top.specs.declared.program.Ready.TheVariants.{Plan, Report}
 
--- what is written
-abbrev pub outputs_of : Ready → Outputs
-outputs_of ready = record { made = cert_files (string_bytes ready.cert) (cert_text ready.season (entries_of ready.plan.entries)); report = ready.plan.text.items }
+-- ---- a plan
 
--- the documents of its files
-abbrev pub docs_ready : Ready → List Doc
-docs_ready ready = docs_by j.Plan (string_bytes ready.cert)
+-- what is written of a plan
+abbrev pub plan_outputs : PlanReady → Outputs
+plan_outputs ready = record { made = cert_files (string_bytes ready.cert) (cert_text ready.season (entries_of ready.plan.entries)); report = ready.plan.text.items }
 
--- the certificate can be written
-pub record IsReady (ready : Ready) : Type 0 where
+abbrev pub plan_docs : PlanReady → List Doc
+plan_docs ready = docs_by j.Plan (string_bytes ready.cert)
+
+-- its certificate can be written
+pub record IsPlanReady (ready : PlanReady) : Type 0 where
   pub live : ready.live ≡ live_pairs ready.season.rules
   pub any : SomePathObeys ready.season.rules
   pub whole : IsWhole ready.season ready.plan.entries
+
+-- ---- each job
+
+-- what is written
+abbrev pub outputs_of : Ready → Outputs
+outputs_of (Plan ready) = plan_outputs ready
+outputs_of (Report text) = record { made = []; report = text.items }
+
+-- the documents of its files
+abbrev pub docs_ready : Ready → List Doc
+docs_ready (Plan ready) = plan_docs ready
+docs_ready (Report text) = []
+
+-- it can be written
+abbrev pub IsReady : Ready → Type 0
+IsReady (Plan ready) = IsPlanReady ready
+IsReady (Report text) = Unit {0}

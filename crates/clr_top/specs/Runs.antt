@@ -20,7 +20,8 @@ use Rattle.clr_report.specs.NoteText.{note_text_of}
 use Rattle.clr_report.specs.declared.note.Doc.{Doc}
 use Rattle.clr_report.specs.declared.note.Doc.TheVariants as d
 use Rattle.clr_report.specs.declared.note.Cause.{Cause}
-use Rattle.clr_report.specs.declared.note.Cause.TheVariants.{Words, Refused, NoPath, ReadFault, Absent, WriteFault, TooLong, Cells, Memory}
+use Rattle.clr_report.specs.declared.note.Cause.TheVariants.{Words, Refused, NoPath, ReadFault, Absent, WriteFault, TooLong, Cells, Size, Base, CertificateNo, PolicyJson, PolicyShape, PolicyUnknown, PolicyRule, Memory}
+use Rattle.clr_top.specs.Judging.{JudgeReports, judge_ends}
 use Rattle.clr_top.specs.Outputs.{AddsFront, Fails, Leaves, Outputs}
 use Rattle.clr_top.specs.Plans.{PlanGives, no_name}
 use Rattle.clr_top.specs.declared.ending.Ending.{Ending}
@@ -39,7 +40,9 @@ number_of s.NoPath = 3
 number_of s.ReadFault = 4
 number_of s.WriteFault = 5
 number_of s.Limit = 6
+number_of s.CertificateNo = 7
 number_of s.Memory = 8
+number_of s.PolicyNo = 9
 number_of s.Absent = 10
 number_of s.NotYet = 11
 
@@ -52,6 +55,13 @@ status_by_cause (Absent doc) = s.Absent
 status_by_cause (WriteFault doc) = s.WriteFault
 status_by_cause (TooLong doc max) = s.Limit
 status_by_cause (Cells found) = s.Limit
+status_by_cause (Size found) = s.Limit
+status_by_cause Base = s.Limit
+status_by_cause (CertificateNo reason) = s.CertificateNo
+status_by_cause PolicyJson = s.PolicyNo
+status_by_cause (PolicyShape branch) = s.PolicyNo
+status_by_cause (PolicyUnknown branch) = s.PolicyNo
+status_by_cause (PolicyRule branch rule) = s.PolicyNo
 status_by_cause Memory = s.Memory
 
 -- the status by which a run ends
@@ -115,7 +125,7 @@ plan_ends season = if is_live season.rules [] then None else Some (By NoPath)
 abbrev pub job_ends : Job → Files → Ask → Option Ending
 job_ends j.Plan held ask = season_ends plan_ends (season_in held ask.folder)
 job_ends j.Check held ask = Some NotYet
-job_ends j.Judge held ask = Some NotYet
+job_ends j.Judge held ask = season_ends (λ season. judge_ends season ask held) (season_in held ask.folder)
 job_ends j.Make held ask = Some NotYet
 
 -- how a run ends by the files, where it doesn't come to its outputs
@@ -141,7 +151,7 @@ OfSeason files ask Holds = (season : Season) × IfSome files (λ held. season_in
 abbrev pub GivesBy : Job → Option Files → Ask → Outputs → Type 0
 GivesBy j.Plan files ask outputs = OfSeason files ask (λ season. PlanGives season ask outputs)
 GivesBy j.Check files ask outputs = ⊥
-GivesBy j.Judge files ask outputs = ⊥
+GivesBy j.Judge files ask outputs = OfSeason files ask (λ season. (outputs.made ≡ []) × JudgeReports files season ask outputs.report)
 GivesBy j.Make files ask outputs = ⊥
 
 -- what a whole run writes
@@ -173,9 +183,19 @@ IsSeasonError files folder taken ShelfRose ending =
 abbrev pub ReadsSeason : List (List ℕ) → Type 0
 ReadsSeason words = (ask : Ask) × (asked_of words ≡ Some ask) × (ask.job ≢ j.Make)
 
--- The job reads a season, and the files before this one are held, not too long and not refused.
+-- the further file that a job reads behind its season
+abbrev pub further_doc : Job → Option Doc
+further_doc j.Plan = None
+further_doc j.Check = None
+further_doc j.Judge = Some d.Policy
+further_doc j.Make = None
+
+-- The job reads a season, and the files before this one are held, not too long and not refused: it is a file of the season, or the further
+-- one, where the folder reads to a season.
 abbrev pub ReachesDoc : Option Files → Ask → Doc → Type 0
-ReachesDoc files ask doc = (ask.job ≢ j.Make) × ((file : File) × (doc ≡ doc_of file) × IfSome files (λ held. ReachesFile file (season_in held ask.folder)))
+ReachesDoc files ask doc =
+    (ask.job ≢ j.Make)
+    × (((file : File) × (doc ≡ doc_of file) × IfSome files (λ held. ReachesFile file (season_in held ask.folder))) ⊎ ((further_doc ask.job ≡ Some doc) × OfSeason files ask (λ season. Unit {0})))
 
 -- A plan is asked, and no path of its season obeys.
 abbrev pub NoneObeys : Option Files → Ask → Type 0
@@ -192,8 +212,15 @@ ReadEnds files ask taken ShelfRose (By (Absent doc)) = ByFiles files ask (By (Ab
 ReadEnds files ask taken ShelfRose (By (WriteFault doc)) = ⊥
 ReadEnds files ask taken ShelfRose (By (TooLong doc max)) = (max < taken) × ByFiles files ask (By (TooLong doc max))
 ReadEnds files ask taken ShelfRose (By (Cells found)) = ByFiles files ask (By (Cells found))
+ReadEnds files ask taken ShelfRose (By (Size found)) = ByFiles files ask (By (Size found))
+ReadEnds files ask taken ShelfRose (By Base) = ByFiles files ask (By Base)
+ReadEnds files ask taken ShelfRose (By (CertificateNo reason)) = ByFiles files ask (By (CertificateNo reason))
+ReadEnds files ask taken ShelfRose (By PolicyJson) = ByFiles files ask (By PolicyJson)
+ReadEnds files ask taken ShelfRose (By (PolicyShape branch)) = ByFiles files ask (By (PolicyShape branch))
+ReadEnds files ask taken ShelfRose (By (PolicyUnknown branch)) = ByFiles files ask (By (PolicyUnknown branch))
+ReadEnds files ask taken ShelfRose (By (PolicyRule branch rule)) = ByFiles files ask (By (PolicyRule branch rule))
 ReadEnds files ask taken ShelfRose (By Memory) = Unit {0}
-ReadEnds files ask taken ShelfRose NotYet = ask.job ≢ j.Plan
+ReadEnds files ask taken ShelfRose NotYet = (ask.job ≢ j.Plan) × (ask.job ≢ j.Judge)
 
 -- Why a run ends before it writes: memory was wanting, the words ask nothing, or what is read.
 abbrev pub EndsBefore : Option Files → List (List ℕ) → ℕ → Type 0 → Ending → Type 0

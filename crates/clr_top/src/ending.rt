@@ -21,10 +21,14 @@ pub enum Status {
     ReadFault,
     /// The report's sink failed, or the desk while a file was made or written.
     WriteFault,
-    /// A file is longer than its limit, or the season's tables have too many cells.
+    /// A file is longer than its limit, the season's tables have too many cells, or a policy is too large to be judged.
     Limit,
+    /// A certificate is refused.
+    CertificateNo,
     /// Memory was wanting.
     Memory,
+    /// A policy file has no reading, or a branch of the policy breaks a rule.
+    PolicyNo,
     /// A file that is needed isn't held.
     Absent,
     /// The job that is asked can't be done yet.
@@ -44,7 +48,9 @@ impl Status {
             Status::ReadFault => 4,
             Status::WriteFault => 5,
             Status::Limit => 6,
+            Status::CertificateNo => 7,
             Status::Memory => 8,
+            Status::PolicyNo => 9,
             Status::Absent => 10,
             Status::NotYet => 11,
         }
@@ -79,6 +85,13 @@ fn status_by(cause: Cause) -> Status
         Cause::WriteFault { .. } => Status::WriteFault,
         Cause::TooLong { .. } => Status::Limit,
         Cause::Cells { .. } => Status::Limit,
+        Cause::Size { .. } => Status::Limit,
+        Cause::Base => Status::Limit,
+        Cause::CertificateNo { .. } => Status::CertificateNo,
+        Cause::PolicyJson => Status::PolicyNo,
+        Cause::PolicyShape { .. } => Status::PolicyNo,
+        Cause::PolicyUnknown { .. } => Status::PolicyNo,
+        Cause::PolicyRule { .. } => Status::PolicyNo,
         Cause::Memory => Status::Memory,
     }
 }

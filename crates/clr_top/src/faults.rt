@@ -226,7 +226,7 @@ fn words_are_read(rt: HostRuntime) -> Result<(), Fail> {
         (&["plan", "f", "g"], Status::Words, USAGE),
         (&["plan", "f", "--steps", "101"], Status::Words, USAGE),
         (&["check", "f"], Status::NotYet, "not yet: job"),
-        (&["judge", "f"], Status::NotYet, "not yet: job"),
+        (&["judge", "f"], Status::Absent, "absent: policy.json"),
         (
             &["make", "f", "--cert", "c"],
             Status::NotYet,
@@ -266,7 +266,9 @@ fn statuses_have_their_numbers(rt: HostRuntime) {
         (Status::ReadFault, 4),
         (Status::WriteFault, 5),
         (Status::Limit, 6),
+        (Status::CertificateNo, 7),
         (Status::Memory, 8),
+        (Status::PolicyNo, 9),
         (Status::Absent, 10),
         (Status::NotYet, 11),
     ];

@@ -12,6 +12,9 @@ mod entries;
 mod exact;
 #[cfg(test)]
 mod faults;
+mod judge;
+#[cfg(test)]
+mod judges;
 #[cfg(test)]
 mod paths;
 mod plan;

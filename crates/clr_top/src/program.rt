@@ -11,10 +11,11 @@ ghost use Rattle.clr_words.specs.Asked.{IsAsk, ask_of, asked_of};
 ghost use Rattle.clr_words.specs.declared.asked.Job.{Job};
 ghost use Rattle.clr_top.specs.declared.ending.Ending.{Ending};
 ghost use Rattle.clr_top.specs.Outputs.{Fails, Leaves, LeavesFiles, Wrote, with_files};
-ghost use Rattle.clr_top.specs.Ready.{IsReady, docs_ready, outputs_of};
+ghost use Rattle.clr_top.specs.Ready.{IsPlanReady, IsReady, docs_ready, outputs_of, plan_docs, plan_outputs};
 ghost use Rattle.clr_top.specs.Runs.{Caused, EndsBefore, Exactly, Gives, IsSeasonError, LeavesOutputs, Notes, ReadEnds, ReadsSeason, Writes, docs_asked, docs_by, ending_asked, ending_by, ends_by, status_of};
 
 use crate::ending::{Ending, Status, by, doc, ending_status, write_note};
+use crate::judge::judge_season;
 use crate::plan::{Plan, plan_season};
 use clr_cert::{CertError, write_cert};
 use clr_io::{Desk, Shelf, Sink, write_whole};
@@ -84,11 +85,30 @@ fn asked_season<H: Shelf>(alloc: Global, asked: &Asked, shelf: &mut H) -> Result
 
 // A plan, the season that it is of, and the name of its certificate.
 #[derive(Drop)]
-struct Ready {
+struct PlanReady {
     season: Season,
     live: Live,
     plan: Plan,
     cert: String,
+}
+
+// What is to be written.
+#[derive(Drop)]
+enum Ready {
+    // A plan's certificate, where one is asked, and its report.
+    Plan { ready: PlanReady },
+    // A report.
+    Report { text: Vec<u8> },
+}
+
+// The report that is to be written.
+fn report(ready: &Ready) -> &[u8]
+    ensures { result.now ≡ (outputs_of ready.now).report }
+{
+    match ready {
+        Ready::Plan { ready } => &ready.plan.text,
+        Ready::Report { text } => text,
+    }
 }
 
 // The plan that is asked.
@@ -108,12 +128,29 @@ fn ready_plan<H: Shelf>(alloc: Global, asked: Asked, shelf: &mut H) -> Result<Re
         return Err(by(Cause::Memory));
     };
     let plan = plan_season(alloc, &season, &live, &asked)?;
-    Ok(Ready {
+    let ready = PlanReady {
         season,
         live,
         plan,
         cert: asked.cert,
-    })
+    };
+    Ok(Ready::Plan { ready })
+}
+
+// The report on the policy of the folder that is asked.
+fn ready_judge<H: Shelf>(alloc: Global, asked: &Asked, shelf: &mut H) -> Result<Ready, Ending>
+    requires job { asked.now.job ≡ Job.Judge }
+    ensures gives { IfOk result (λ ready. Gives (H.files shelf.old) (ask_of asked.now) (outputs_of ready)) }
+    ensures docs { IfOk result (λ ready. docs_ready ready ≡ docs_by asked.now.job (string_bytes asked.now.cert)) }
+    ensures passes { IfOk result (λ ready. IfSome (H.files shelf.old) (λ held. ends_by held (ask_of asked.now) ≡ None)) }
+    ensures ready { IfOk result (λ ready. IsReady ready) }
+    ensures ends { (ending : Ending) → IsErrOf result ending → ReadEnds (H.files shelf.old) (ask_of asked.now) (H.taken shelf.new) (Rose (H.faults shelf.old) (H.faults shelf.new)) ending }
+    ensures files { H.files shelf.new ≡ H.files shelf.old }
+    ensures later { H.faults shelf.old ≤ H.faults shelf.new }
+{
+    let season = asked_season(alloc, asked, shelf)?;
+    let text = judge_season(alloc, &season, asked, shelf)?;
+    Ok(Ready::Report { text })
 }
 
 // What the words ask, ready to be written.
@@ -129,21 +166,22 @@ fn prepare<H: Shelf>(alloc: Global, words: &[String], shelf: &mut H) -> Result<R
     let asked = read_asked(alloc, words)?;
     match asked.job {
         Job::Plan => ready_plan(alloc, asked, shelf),
+        Job::Judge => ready_judge(alloc, &asked, shelf),
         _ => Err(Ending::NotYet),
     }
 }
 
 // ---- writing
 
-// Makes the files on the desk: the certificate, where one is asked.
-fn write_made<D: Desk>(alloc: Global, ready: &Ready, desk: &mut D) -> Result<(), Ending>
-    requires { IsReady ready.now }
-    ensures ok { OnOk result (D.made desk.new ≡ with_files (D.made desk.old) (outputs_of ready.now).made) }
-    ensures none { docs_ready ready.now ≡ [] → desk.new ≡ desk.old }
+// Makes the certificate on the desk, where one is asked.
+fn write_plan<D: Desk>(alloc: Global, ready: &PlanReady, desk: &mut D) -> Result<(), Ending>
+    requires { IsPlanReady ready.now }
+    ensures ok { OnOk result (D.made desk.new ≡ with_files (D.made desk.old) (plan_outputs ready.now).made) }
+    ensures none { plan_docs ready.now ≡ [] → desk.new ≡ desk.old }
     ensures ends { (ending : Ending) → IsErrOf result ending → (ending ≡ Ending.By Cause.Memory) ⊎ ((doc : Doc) × (ending ≡ Ending.By (Cause.WriteFault doc))) }
     ensures memory { IsErrOf result (Ending.By Cause.Memory) → desk.new ≡ desk.old }
-    ensures failed { (doc : Doc) → IsErrOf result (Ending.By (Cause.WriteFault doc)) → Contains (docs_ready ready.now) doc × Rose (D.faults desk.old) (D.faults desk.new) }
-    ensures leaves { (doc : Doc) → IsErrOf result (Ending.By (Cause.WriteFault doc)) → LeavesFiles (docs_ready ready.now) (outputs_of ready.now).made (D.made desk.old) (D.made desk.new) doc }
+    ensures failed { (doc : Doc) → IsErrOf result (Ending.By (Cause.WriteFault doc)) → Contains (plan_docs ready.now) doc × Rose (D.faults desk.old) (D.faults desk.new) }
+    ensures leaves { (doc : Doc) → IsErrOf result (Ending.By (Cause.WriteFault doc)) → LeavesFiles (plan_docs ready.now) (plan_outputs ready.now).made (D.made desk.old) (D.made desk.new) doc }
     ensures later { D.faults desk.old ≤ D.faults desk.new }
 {
     let name = ready.cert.as_str();
@@ -157,6 +195,23 @@ fn write_made<D: Desk>(alloc: Global, ready: &Ready, desk: &mut D) -> Result<(),
             doc: Doc::Certificate,
         })),
         Err(CertError::Memory) => Err(by(Cause::Memory)),
+    }
+}
+
+// Makes the files on the desk.
+fn write_made<D: Desk>(alloc: Global, ready: &Ready, desk: &mut D) -> Result<(), Ending>
+    requires { IsReady ready.now }
+    ensures ok { OnOk result (D.made desk.new ≡ with_files (D.made desk.old) (outputs_of ready.now).made) }
+    ensures none { docs_ready ready.now ≡ [] → desk.new ≡ desk.old }
+    ensures ends { (ending : Ending) → IsErrOf result ending → (ending ≡ Ending.By Cause.Memory) ⊎ ((doc : Doc) × (ending ≡ Ending.By (Cause.WriteFault doc))) }
+    ensures memory { IsErrOf result (Ending.By Cause.Memory) → desk.new ≡ desk.old }
+    ensures failed { (doc : Doc) → IsErrOf result (Ending.By (Cause.WriteFault doc)) → Contains (docs_ready ready.now) doc × Rose (D.faults desk.old) (D.faults desk.new) }
+    ensures leaves { (doc : Doc) → IsErrOf result (Ending.By (Cause.WriteFault doc)) → LeavesFiles (docs_ready ready.now) (outputs_of ready.now).made (D.made desk.old) (D.made desk.new) doc }
+    ensures later { D.faults desk.old ≤ D.faults desk.new }
+{
+    match ready {
+        Ready::Plan { ready } => write_plan(alloc, ready, desk),
+        Ready::Report { .. } => Ok(()),
     }
 }
 
@@ -177,7 +232,7 @@ fn write_outputs<D: Desk, O: Sink>(
     ensures around { O.around out.new ≡ O.around out.old }
 {
     write_made(alloc, ready, desk)?;
-    match write_whole(out, &ready.plan.text) {
+    match write_whole(out, report(ready)) {
         Ok(()) => Ok(()),
         Err(_) => Err(by(Cause::WriteFault { doc: Doc::Report })),
     }
@@ -211,12 +266,15 @@ fn work<H: Shelf, D: Desk, O: Sink>(
 /// desk, unless the name is `-`, and then writes the plan report: of the bound over all policies that a descent of
 /// `--steps` steps of the size `--step` gives; of the path that a search of `--nodes` tight prefixes finds with the
 /// multipliers of that bound; and, where the season is small enough, of the table for the stocks of all stores. `--seed` has
-/// no effect on a plan.
+/// no effect on a plan. `judge FOLDER` reads the season, and then the folder's policy.json from the shelf, and writes the
+/// judge report: of the policy's size in rungs and tests, and of what it earns.
 ///
 /// The order of the answers is: `Words`; `NotYet` of another job; file by file (rules.json, calendar.csv where the rules
 /// say that there is one, ladder.csv, stock.csv, demand.csv) `ReadFault`, `Absent`, `Limit` where the file is too long, and
-/// `Refused`; behind all files `Limit` where the cells are too many; `NoPath` where no path obeys; `WriteFault` of the
-/// certificate, and then of the report. `Memory` may come anywhere before the first byte is written to the desk or the
+/// `Refused`; behind all files `Limit` where the cells are too many; for a plan `NoPath` where no path obeys; for a policy
+/// `ReadFault`, `Absent`, `Limit` where its file is too long, `PolicyNo` where it has no reading or a branch breaks a rule,
+/// and `Limit` where the base of the weights or the policy is too large; `WriteFault` of the certificate, and then of the
+/// report. `Memory` may come anywhere before the first byte is written to the desk or the
 /// report. For each status but `Ok` one note goes to `note`.
 pub fn run<H: Shelf, D: Desk, O: Sink, N: Sink>(
     alloc: Global,

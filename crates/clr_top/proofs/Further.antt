@@ -1,0 +1,68 @@
+-- How runs end by a further file that is read behind the season, and what they give where it is read.
+use Rattle.std.proofs.Common.{◌≡◌, inr, arith, refl, sym, subst, ◌∙◌, ℕ, ◌≤◌, [], Some, None}
+use Rattle.std.specs.Prelude.{◌≢◌, IfSome, Option, Ok}
+use Rattle.clr_io.specs.Causes.{Rose}
+use Rattle.clr_io.specs.Files.{Files}
+use Rattle.clr_words.specs.Asked.{Ask}
+use Rattle.clr_words.specs.declared.asked.Job.{Job}
+use Rattle.clr_words.specs.declared.asked.Job.TheVariants as j
+use Rattle.clr_season.specs.Reads.{season_in}
+use Rattle.clr_season.specs.Season.{IsSeason, Season}
+use Rattle.clr_report.specs.declared.note.Cause.TheVariants.{Words, Refused, NoPath, ReadFault, Absent, WriteFault, TooLong, Cells, Size, Base, CertificateNo, PolicyJson, PolicyShape, PolicyUnknown, PolicyRule, Memory}
+use Rattle.clr_report.specs.declared.note.Doc.{Doc}
+use Rattle.clr_top.specs.declared.ending.Ending.{Ending}
+use Rattle.clr_top.specs.declared.ending.Ending.TheVariants.{By, NotYet}
+use Rattle.clr_top.specs.FileEnds.{EndsBy}
+use Rattle.clr_top.specs.Judging.{JudgeReports, judge_ends}
+use Rattle.clr_top.specs.Outputs.{Outputs}
+use Rattle.clr_top.specs.Runs.{ByFiles, Gives, GivesBy, OfSeason, ReadEnds, ends_by, further_doc, job_ends}
+
+-- a count that rose later rose
+pub rose_later : (before mid now : ℕ) → before ≤ mid → Rose mid now → Rose before now
+rose_later before mid now first rose = omega (arith, first, rose)
+
+-- how the job ends behind its season
+abbrev pub EndsBehind : Job → (Season → Ask → Files → Option Ending) → Type 0
+EndsBehind job ends = (held : Files) (ask : Ask) (season : Season) → ask.job ≡ job → season_in held ask.folder ≡ Ok season → ends_by held ask ≡ ends season ask held
+
+module _ (job : Job) (ends : Season → Ask → Files → Option Ending) (behind : EndsBehind job ends) (files : Option Files) (ask : Ask) (season : Season) (of : ask.job ≡ job) (is : IfSome files (λ held. season_in held ask.folder ≡ Ok season)) (facts : IsSeason season) where
+  says : (told : Option Files) (ending : Ending) → IfSome told (λ held. season_in held ask.folder ≡ Ok season) → IfSome told (λ held. ends season ask held ≡ Some ending) → ByFiles told ask ending
+  says None ending reads given = tt
+  says (Some held) ending reads given = behind held ask season of reads ∙ given
+
+  passes-so : (told : Option Files) → IfSome told (λ held. season_in held ask.folder ≡ Ok season) → IfSome told (λ held. ends season ask held ≡ None) → IfSome told (λ held. ends_by held ask ≡ None)
+  passes-so None reads given = tt
+  passes-so (Some held) reads given = behind held ask season of reads ∙ given
+
+  -- it comes to its outputs
+  pub further-passes : IfSome files (λ held. ends season ask held ≡ None) → IfSome files (λ held. ends_by held ask ≡ None)
+  further-passes given = passes-so files is given
+
+  -- it ends by the further file
+  pub further-ends : (doc : Doc) (taken before mid now : ℕ) (ending : Ending) → job ≢ j.Make → further_doc job ≡ Some doc → before ≤ mid → EndsBy files (ends season ask) doc taken mid now ending → ReadEnds files ask taken (Rose before now) ending
+  further-ends doc taken before mid now (By Words) reads named first given = given
+  further-ends doc taken before mid now (By (Refused named_doc row column why)) reads named first given = absurd given
+  further-ends doc taken before mid now (By NoPath) reads named first given = absurd given
+  further-ends doc taken before mid now (By (ReadFault failed)) reads named first (same, rose) =
+      (rose_later before mid now first rose, ((λ make. reads (sym of ∙ make)), inr (subst (λ job. further_doc job ≡ Some failed) (sym of) (subst (λ d. further_doc job ≡ Some d) (sym same) named), (season, is, facts, tt))))
+  further-ends doc taken before mid now (By (Absent lacking)) reads named first given = says files (By (Absent lacking)) is given
+  further-ends doc taken before mid now (By (WriteFault failed)) reads named first given = given
+  further-ends doc taken before mid now (By (TooLong long max)) reads named first given = (given.0, says files (By (TooLong long max)) is given.1)
+  further-ends doc taken before mid now (By (Cells found)) reads named first given = absurd given
+  further-ends doc taken before mid now (By (Size found)) reads named first given = says files (By (Size found)) is given
+  further-ends doc taken before mid now (By Base) reads named first given = says files (By Base) is given
+  further-ends doc taken before mid now (By (CertificateNo reason)) reads named first given = says files (By (CertificateNo reason)) is given
+  further-ends doc taken before mid now (By PolicyJson) reads named first given = says files (By PolicyJson) is given
+  further-ends doc taken before mid now (By (PolicyShape branch)) reads named first given = says files (By (PolicyShape branch)) is given
+  further-ends doc taken before mid now (By (PolicyUnknown branch)) reads named first given = says files (By (PolicyUnknown branch)) is given
+  further-ends doc taken before mid now (By (PolicyRule branch rule)) reads named first given = says files (By (PolicyRule branch rule)) is given
+  further-ends doc taken before mid now (By Memory) reads named first given = tt
+  further-ends doc taken before mid now NotYet reads named first given = absurd given
+
+-- ---- judge
+
+pub judge-behind : EndsBehind j.Judge judge_ends
+judge-behind held ask season of is = subst (λ job. job_ends job held ask ≡ judge_ends season ask held) (sym of) (rw is refl)
+
+pub judge-gives : (files : Option Files) (ask : Ask) (outputs : Outputs) → ask.job ≡ j.Judge → OfSeason files ask (λ season. (outputs.made ≡ []) × JudgeReports files season ask outputs.report) → Gives files ask outputs
+judge-gives files ask outputs judge gives = subst (λ job. GivesBy job files ask outputs) (sym judge) gives
