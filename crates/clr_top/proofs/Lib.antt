@@ -4,6 +4,7 @@ pub mod Ends
 pub mod Further
 pub mod JointAsking
 pub mod Judged
+pub mod Making
 pub mod Reporting
 pub mod Tabled
 pub mod Writing

@@ -15,6 +15,9 @@ mod faults;
 mod judge;
 #[cfg(test)]
 mod judges;
+mod make;
+#[cfg(test)]
+mod makes;
 #[cfg(test)]
 mod paths;
 mod plan;
