@@ -19,7 +19,7 @@ use Rattle.clr_top.specs.declared.ending.Status.{Status}
 use Rattle.clr_top.specs.declared.ending.Status.TheVariants as s
 use Rattle.clr_top.specs.Outputs.{Fails, Outputs}
 use Rattle.clr_top.specs.Plans.{PlanGives}
-use Rattle.clr_top.specs.Runs.{ByFiles, Caused, EndsBefore, Exactly, Gives, GivesBy, IsSeasonError, OfSeason, ReadEnds, ReadsSeason, docs_asked, ending_asked, ends_by, job_ends, plan_ends, season_ends, status_of, stopped}
+use Rattle.clr_top.specs.Runs.{ByFiles, Caused, EndsBefore, Exactly, Gives, GivesBy, IsSeasonError, MakesSeason, OfSeason, ReadEnds, ReadsSeason, docs_asked, ending_asked, ends_by, job_ends, plan_ends, season_ends, status_of, stopped}
 
 -- an error that was handed on
 pub same-error : {X : Type 0} (error ending : Ending) → IsErrOf {T = X} {E = Ending} (Err error) ending → error ≡ ending
@@ -37,21 +37,24 @@ plan-stops held ask stop plan is = rw (plan, is) refl
 pub judge-stops : StopsBySeason j.Judge
 judge-stops held ask stop judge is = subst (λ job. job_ends job held ask ≡ Some (stopped stop)) (sym judge) (rw is refl)
 
-by-files : (job : Job) → StopsBySeason job → (files : Option Files) (ask : Ask) (stop : Stop) → ask.job ≡ job → IfSome files (λ held. season_in held ask.folder ≡ Err stop) → ByFiles files ask (stopped stop)
-by-files job stops None ask stop of is = tt
-by-files job stops (Some held) ask stop of is = stops held ask stop of is
-
 not-make : (job given : Job) → job ≡ given → given ≢ j.Make → job ≢ j.Make
 not-make job given is other = λ make. other (sym is ∙ make)
+
+stops-so : (job : Job) → StopsBySeason job → (files : Option Files) (ask : Ask) (stop : Stop) → ask.job ≡ job → IfSome files (λ held. season_in held ask.folder ≡ Err stop) → IfSome files (λ held. ends_by held ask ≡ Some (stopped stop))
+stops-so job stops None ask stop of is = tt
+stops-so job stops (Some held) ask stop of is = stops held ask stop of is
+
+by-files : (job : Job) → StopsBySeason job → job ≢ j.Make → (files : Option Files) (ask : Ask) (stop : Stop) → ask.job ≡ job → IfSome files (λ held. season_in held ask.folder ≡ Err stop) → ByFiles files ask (stopped stop)
+by-files job stops reads files ask stop of is = (not-make ask.job job of reads, stops-so job stops files ask stop of is)
 
 -- an error of the season that is asked, and why the run ends by it
 pub season-error : (job : Job) → StopsBySeason job → job ≢ j.Make → (files : Option Files) (ask : Ask) (taken : ℕ) (ShelfRose : Type 0) (ending : Ending) → ask.job ≡ job → IsSeasonError files ask.folder taken ShelfRose ending → ReadEnds files ask taken ShelfRose ending
 season-error job stops reads files ask taken ShelfRose ending of (e.Read file, by, given, rose, long) = rw by (rose file refl, (not-make ask.job job of reads, inl (file, refl, given)))
-season-error job stops reads files ask taken ShelfRose ending of (e.Absent file, by, given, rose, long) = rw by (by-files job stops files ask (absent file) of given)
-season-error job stops reads files ask taken ShelfRose ending of (e.TooLong file, by, given, rose, long) = rw by (long file refl, by-files job stops files ask (too_long file) of given)
+season-error job stops reads files ask taken ShelfRose ending of (e.Absent file, by, given, rose, long) = rw by (by-files job stops reads files ask (absent file) of given)
+season-error job stops reads files ask taken ShelfRose ending of (e.TooLong file, by, given, rose, long) = rw by (long file refl, by-files job stops reads files ask (too_long file) of given)
 season-error job stops reads files ask taken ShelfRose ending of (e.Refused file row column why, by, given, rose, long) =
-    rw by (by-files job stops files ask (refused file (record { row = row; column = column; why = why })) of given)
-season-error job stops reads files ask taken ShelfRose ending of (e.Cells found, by, given, rose, long) = rw by (by-files job stops files ask (too_many_cells found) of given)
+    rw by (by-files job stops reads files ask (refused file (record { row = row; column = column; why = why })) of given)
+season-error job stops reads files ask taken ShelfRose ending of (e.Cells found, by, given, rose, long) = rw by (by-files job stops reads files ask (too_many_cells found) of given)
 season-error job stops reads files ask taken ShelfRose ending of (e.Memory, by, given, rose, long) = rw by tt
 
 -- ---- by the rules
@@ -171,6 +174,32 @@ words-caused files words taken ShelfRose DeskRose OutRose ending is (inl (inr (i
 words-caused files words taken ShelfRose DeskRose OutRose ending is (inl (inr (inr (ask, asked, ends)))) = absurd (words-end files ask taken ShelfRose ending is ends)
 words-caused files words taken ShelfRose DeskRose OutRose ending is (inr (doc, by, fails, passes)) = let status : status_of ending ≡ s.WriteFault = ap status_of by in cc
 
+make-ends : (files : Option Files) (ask : Ask) (taken : ℕ) (ShelfRose : Type 0) (ending : Ending) → ask.job ≡ j.Make → ReadEnds files ask taken ShelfRose ending → status_of ending ≡ s.Memory
+make-ends files ask taken ShelfRose (By Words) make ends = absurd ends
+make-ends files ask taken ShelfRose (By (Refused doc row column why)) make ends = absurd (ends.0 make)
+make-ends files ask taken ShelfRose (By NoPath) make ends = let plan : ask.job ≡ j.Plan = ends.0 in cc
+make-ends files ask taken ShelfRose (By (ReadFault doc)) make ends = absurd (ends.1.0 make)
+make-ends files ask taken ShelfRose (By (Absent doc)) make ends = absurd (ends.0 make)
+make-ends files ask taken ShelfRose (By (WriteFault doc)) make ends = absurd ends
+make-ends files ask taken ShelfRose (By (TooLong doc max)) make ends = absurd (ends.1.0 make)
+make-ends files ask taken ShelfRose (By (Cells found)) make ends = absurd (ends.0 make)
+make-ends files ask taken ShelfRose (By (Size found)) make ends = absurd (ends.0 make)
+make-ends files ask taken ShelfRose (By Base) make ends = absurd (ends.0 make)
+make-ends files ask taken ShelfRose (By (CertificateNo reason)) make ends = absurd (ends.0 make)
+make-ends files ask taken ShelfRose (By PolicyJson) make ends = absurd (ends.0 make)
+make-ends files ask taken ShelfRose (By (PolicyShape branch)) make ends = absurd (ends.0 make)
+make-ends files ask taken ShelfRose (By (PolicyUnknown branch)) make ends = absurd (ends.0 make)
+make-ends files ask taken ShelfRose (By (PolicyRule branch rule)) make ends = absurd (ends.0 make)
+make-ends files ask taken ShelfRose (By Memory) make ends = refl
+make-ends files ask taken ShelfRose NotYet make ends = let check : ask.job ≡ j.Check = ends in cc
+
+-- what is made ends by a fault of an output, or for want of memory
+pub makes-caused : (files : Option Files) (words : List (List ℕ)) (taken : ℕ) (ShelfRose DeskRose OutRose : Type 0) (ending : Ending) → MakesSeason words → Caused files words taken ShelfRose DeskRose OutRose ending → (status_of ending ≡ s.WriteFault) ⊎ (status_of ending ≡ s.Memory)
+makes-caused files words taken ShelfRose DeskRose OutRose ending makes (inl (inl memory)) = inr (ap status_of memory)
+makes-caused files words taken ShelfRose DeskRose OutRose ending (ask, asked, make) (inl (inr (inl by_words))) = let none : asked_of words ≡ None = by_words.1 in cc
+makes-caused files words taken ShelfRose DeskRose OutRose ending (ask, asked, make) (inl (inr (inr (other, other_asked, ends)))) = let same : ask ≡ other = cc in inr (make-ends files other taken ShelfRose ending (subst (λ a. a.job ≡ j.Make) same make) ends)
+makes-caused files words taken ShelfRose DeskRose OutRose ending makes (inr (doc, by, fails, passes)) = inl (ap status_of by)
+
 -- ---- exactly where the words and the files say so
 
 exactly-of : (status : Status) (given : Option Ending) (ending : Ending) → given ≡ Some ending → status ≡ status_of ending → Exactly status given
@@ -187,30 +216,27 @@ memory-wanting (Some ending) = inr (inr refl)
 plan-dead : (given : Result Season Stop) (season : Season) → given ≡ Ok season → NoPathObeys season.rules → season_ends plan_ends given ≡ Some (By NoPath)
 plan-dead given season is none = let dead : is_live season.rules [] ≡ false = (some_or_none_obeys_lem season.rules).none.1 none in rw (is, dead) refl
 
-job-waits : (held : Files) (job : Job) (ask : Ask) → job ≢ j.Plan → job ≢ j.Judge → job_ends job held ask ≡ Some NotYet
-job-waits held j.Plan ask other judged = absurd (other refl)
-job-waits held j.Check ask other judged = refl
-job-waits held j.Judge ask other judged = absurd (judged refl)
-job-waits held j.Make ask other judged = refl
+check-waits : (held : Files) (ask : Ask) → ask.job ≡ j.Check → ends_by held ask ≡ Some NotYet
+check-waits held ask check = rw check refl
 
 exactly-read : (held : Files) (ask : Ask) (taken : ℕ) (ShelfRose : Type 0) (ending : Ending) → ReadEnds (Some held) ask taken ShelfRose ending → Exactly (status_of ending) (ends_by held ask)
 exactly-read held ask taken ShelfRose (By Words) ends = absurd ends
-exactly-read held ask taken ShelfRose (By (Refused doc row column why)) ends = exactly-of s.Refused (ends_by held ask) (By (Refused doc row column why)) ends refl
+exactly-read held ask taken ShelfRose (By (Refused doc row column why)) ends = exactly-of s.Refused (ends_by held ask) (By (Refused doc row column why)) ends.1 refl
 exactly-read held ask taken ShelfRose (By NoPath) (plan, (season, is, facts, none)) = exactly-of s.NoPath (ends_by held ask) (By NoPath) (rw plan (plan-dead (season_in held ask.folder) season is none)) refl
 exactly-read held ask taken ShelfRose (By (ReadFault doc)) ends = reading-fails (ends_by held ask)
-exactly-read held ask taken ShelfRose (By (Absent doc)) ends = exactly-of s.Absent (ends_by held ask) (By (Absent doc)) ends refl
+exactly-read held ask taken ShelfRose (By (Absent doc)) ends = exactly-of s.Absent (ends_by held ask) (By (Absent doc)) ends.1 refl
 exactly-read held ask taken ShelfRose (By (WriteFault doc)) ends = absurd ends
-exactly-read held ask taken ShelfRose (By (TooLong doc max)) ends = exactly-of s.Limit (ends_by held ask) (By (TooLong doc max)) ends.1 refl
-exactly-read held ask taken ShelfRose (By (Cells found)) ends = exactly-of s.Limit (ends_by held ask) (By (Cells found)) ends refl
-exactly-read held ask taken ShelfRose (By (Size found)) ends = exactly-of s.Limit (ends_by held ask) (By (Size found)) ends refl
-exactly-read held ask taken ShelfRose (By Base) ends = exactly-of s.Limit (ends_by held ask) (By Base) ends refl
-exactly-read held ask taken ShelfRose (By (CertificateNo reason)) ends = exactly-of s.CertificateNo (ends_by held ask) (By (CertificateNo reason)) ends refl
-exactly-read held ask taken ShelfRose (By PolicyJson) ends = exactly-of s.PolicyNo (ends_by held ask) (By PolicyJson) ends refl
-exactly-read held ask taken ShelfRose (By (PolicyShape branch)) ends = exactly-of s.PolicyNo (ends_by held ask) (By (PolicyShape branch)) ends refl
-exactly-read held ask taken ShelfRose (By (PolicyUnknown branch)) ends = exactly-of s.PolicyNo (ends_by held ask) (By (PolicyUnknown branch)) ends refl
-exactly-read held ask taken ShelfRose (By (PolicyRule branch rule)) ends = exactly-of s.PolicyNo (ends_by held ask) (By (PolicyRule branch rule)) ends refl
+exactly-read held ask taken ShelfRose (By (TooLong doc max)) ends = exactly-of s.Limit (ends_by held ask) (By (TooLong doc max)) ends.1.1 refl
+exactly-read held ask taken ShelfRose (By (Cells found)) ends = exactly-of s.Limit (ends_by held ask) (By (Cells found)) ends.1 refl
+exactly-read held ask taken ShelfRose (By (Size found)) ends = exactly-of s.Limit (ends_by held ask) (By (Size found)) ends.1 refl
+exactly-read held ask taken ShelfRose (By Base) ends = exactly-of s.Limit (ends_by held ask) (By Base) ends.1 refl
+exactly-read held ask taken ShelfRose (By (CertificateNo reason)) ends = exactly-of s.CertificateNo (ends_by held ask) (By (CertificateNo reason)) ends.1 refl
+exactly-read held ask taken ShelfRose (By PolicyJson) ends = exactly-of s.PolicyNo (ends_by held ask) (By PolicyJson) ends.1 refl
+exactly-read held ask taken ShelfRose (By (PolicyShape branch)) ends = exactly-of s.PolicyNo (ends_by held ask) (By (PolicyShape branch)) ends.1 refl
+exactly-read held ask taken ShelfRose (By (PolicyUnknown branch)) ends = exactly-of s.PolicyNo (ends_by held ask) (By (PolicyUnknown branch)) ends.1 refl
+exactly-read held ask taken ShelfRose (By (PolicyRule branch rule)) ends = exactly-of s.PolicyNo (ends_by held ask) (By (PolicyRule branch rule)) ends.1 refl
 exactly-read held ask taken ShelfRose (By Memory) ends = memory-wanting (ends_by held ask)
-exactly-read held ask taken ShelfRose NotYet ends = exactly-of s.NotYet (ends_by held ask) NotYet (job-waits held ask.job ask ends.0 ends.1) refl
+exactly-read held ask taken ShelfRose NotYet ends = exactly-of s.NotYet (ends_by held ask) NotYet (check-waits held ask ends) refl
 
 no-words : (held : Files) (words : List (List ℕ)) → asked_of words ≡ None → ending_asked held words ≡ Some (By Words)
 no-words held words none = rw none refl

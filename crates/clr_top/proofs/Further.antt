@@ -26,9 +26,12 @@ abbrev pub EndsBehind : Job → (Season → Ask → Files → Option Ending) →
 EndsBehind job ends = (held : Files) (ask : Ask) (season : Season) → ask.job ≡ job → season_in held ask.folder ≡ Ok season → ends_by held ask ≡ ends season ask held
 
 module _ (job : Job) (ends : Season → Ask → Files → Option Ending) (behind : EndsBehind job ends) (files : Option Files) (ask : Ask) (season : Season) (of : ask.job ≡ job) (is : IfSome files (λ held. season_in held ask.folder ≡ Ok season)) (facts : IsSeason season) where
-  says : (told : Option Files) (ending : Ending) → IfSome told (λ held. season_in held ask.folder ≡ Ok season) → IfSome told (λ held. ends season ask held ≡ Some ending) → ByFiles told ask ending
-  says None ending reads given = tt
-  says (Some held) ending reads given = behind held ask season of reads ∙ given
+  said : (told : Option Files) (ending : Ending) → IfSome told (λ held. season_in held ask.folder ≡ Ok season) → IfSome told (λ held. ends season ask held ≡ Some ending) → IfSome told (λ held. ends_by held ask ≡ Some ending)
+  said None ending reads given = tt
+  said (Some held) ending reads given = behind held ask season of reads ∙ given
+
+  says : (ending : Ending) → job ≢ j.Make → IfSome files (λ held. ends season ask held ≡ Some ending) → ByFiles files ask ending
+  says ending reads given = ((λ make. reads (sym of ∙ make)), said files ending is given)
 
   passes-so : (told : Option Files) → IfSome told (λ held. season_in held ask.folder ≡ Ok season) → IfSome told (λ held. ends season ask held ≡ None) → IfSome told (λ held. ends_by held ask ≡ None)
   passes-so None reads given = tt
@@ -45,17 +48,17 @@ module _ (job : Job) (ends : Season → Ask → Files → Option Ending) (behind
   further-ends doc taken before mid now (By NoPath) reads named first given = absurd given
   further-ends doc taken before mid now (By (ReadFault failed)) reads named first (same, rose) =
       (rose_later before mid now first rose, ((λ make. reads (sym of ∙ make)), inr (subst (λ job. further_doc job ≡ Some failed) (sym of) (subst (λ d. further_doc job ≡ Some d) (sym same) named), (season, is, facts, tt))))
-  further-ends doc taken before mid now (By (Absent lacking)) reads named first given = says files (By (Absent lacking)) is given
+  further-ends doc taken before mid now (By (Absent lacking)) reads named first given = says (By (Absent lacking)) reads given
   further-ends doc taken before mid now (By (WriteFault failed)) reads named first given = given
-  further-ends doc taken before mid now (By (TooLong long max)) reads named first given = (given.0, says files (By (TooLong long max)) is given.1)
+  further-ends doc taken before mid now (By (TooLong long max)) reads named first given = (given.0, says (By (TooLong long max)) reads given.1)
   further-ends doc taken before mid now (By (Cells found)) reads named first given = absurd given
-  further-ends doc taken before mid now (By (Size found)) reads named first given = says files (By (Size found)) is given
-  further-ends doc taken before mid now (By Base) reads named first given = says files (By Base) is given
-  further-ends doc taken before mid now (By (CertificateNo reason)) reads named first given = says files (By (CertificateNo reason)) is given
-  further-ends doc taken before mid now (By PolicyJson) reads named first given = says files (By PolicyJson) is given
-  further-ends doc taken before mid now (By (PolicyShape branch)) reads named first given = says files (By (PolicyShape branch)) is given
-  further-ends doc taken before mid now (By (PolicyUnknown branch)) reads named first given = says files (By (PolicyUnknown branch)) is given
-  further-ends doc taken before mid now (By (PolicyRule branch rule)) reads named first given = says files (By (PolicyRule branch rule)) is given
+  further-ends doc taken before mid now (By (Size found)) reads named first given = says (By (Size found)) reads given
+  further-ends doc taken before mid now (By Base) reads named first given = says (By Base) reads given
+  further-ends doc taken before mid now (By (CertificateNo reason)) reads named first given = says (By (CertificateNo reason)) reads given
+  further-ends doc taken before mid now (By PolicyJson) reads named first given = says (By PolicyJson) reads given
+  further-ends doc taken before mid now (By (PolicyShape branch)) reads named first given = says (By (PolicyShape branch)) reads given
+  further-ends doc taken before mid now (By (PolicyUnknown branch)) reads named first given = says (By (PolicyUnknown branch)) reads given
+  further-ends doc taken before mid now (By (PolicyRule branch rule)) reads named first given = says (By (PolicyRule branch rule)) reads given
   further-ends doc taken before mid now (By Memory) reads named first given = tt
   further-ends doc taken before mid now NotYet reads named first given = absurd given
 

@@ -1,9 +1,12 @@
--- What made files read to.
-use Rattle.std.proofs.Common.{◌≡◌, inl, inr, refl, ℕ, List}
-use Rattle.std.specs.Prelude.{◌⊎◌, IfOk, IfSome, Option, Some, Result, Ok, Err}
+-- What made files read to, and how their job ends.
+use Rattle.std.proofs.Common.{◌≡◌, inl, inr, refl, sym, subst, ℕ, List}
+use Rattle.std.specs.Prelude.{◌⊎◌, IfOk, IfSome, Option, Some, None, Result, Ok, Err}
 use Rattle.clr_io.specs.Files.{Files}
+use Rattle.clr_words.specs.Asked.{Ask}
+use Rattle.clr_words.specs.declared.asked.Job.TheVariants as j
 use Rattle.clr_rules.specs.FirstPath.{SomePathObeys}
-use Rattle.clr_season.specs.Reads.{Gives, Stop, absent, refused, season_in, too_long, too_many_cells}
+use Rattle.clr_season.specs.Reads.{Gives as SeasonGives}
+use Rattle.clr_season.specs.Reads.{Stop, absent, refused, season_in, too_long, too_many_cells}
 use Rattle.clr_season.specs.Season.{Season}
 use Rattle.clr_season.specs.declared.reads.File.{File}
 use Rattle.clr_season.specs.declared.reads.SeasonError.{SeasonError}
@@ -13,16 +16,19 @@ use Rattle.clr_rules.specs.FirstPath.{NoPathObeys}
 use Rattle.clr_rules.specs.Rules.{Rulebook}
 use Rattle.clr_rules.proofs.FirstPaths.{some_or_none_obeys_lem}
 use Rattle.clr_report.specs.declared.note.Cause.TheVariants as note
+use Rattle.clr_top.specs.Making.{MakeGives}
+use Rattle.clr_top.specs.Outputs.{Outputs}
+use Rattle.clr_top.specs.Runs.{Gives, GivesBy, ends_by}
 use Rattle.clr_top.specs.declared.ending.Ending.{Ending}
 use Rattle.clr_top.specs.declared.ending.Ending.TheVariants.{By}
 
 -- what was read of a shelf, where these are its files
-pub of-files : (told : Option Files) (files : Files) (folder : List ℕ) (result : Result Season SeasonError) → told ≡ Some files → IfSome told (λ held. Gives {X = Season} {Y = Season} (λ s. s) result (season_in held folder)) →
-    Gives {X = Season} {Y = Season} (λ s. s) result (season_in files folder)
+pub of-files : (told : Option Files) (files : Files) (folder : List ℕ) (result : Result Season SeasonError) → told ≡ Some files → IfSome told (λ held. SeasonGives {X = Season} {Y = Season} (λ s. s) result (season_in held folder)) →
+    SeasonGives {X = Season} {Y = Season} (λ s. s) result (season_in files folder)
 of-files told files folder result is gives = rw is at gives
 
 -- of the season that was read some path obeys
-pub some-obeys : (files : Files) (folder : List ℕ) (result : Result Season SeasonError) → ReadsToSeason files folder → Gives {X = Season} {Y = Season} (λ s. s) result (season_in files folder) → IfOk result (λ season. SomePathObeys season.rules)
+pub some-obeys : (files : Files) (folder : List ℕ) (result : Result Season SeasonError) → ReadsToSeason files folder → SeasonGives {X = Season} {Y = Season} (λ s. s) result (season_in files folder) → IfOk result (λ season. SomePathObeys season.rules)
 some-obeys files folder (Ok season) made gives =
     let reads : season_in files folder ≡ Ok made.season = made.reads in
     let same : season ≡ made.season = cc in
@@ -36,7 +42,7 @@ nothing-stands files folder stop made gives =
     cc
 
 -- so only a fault or want of memory is left
-pub only-faults : (files : Files) (folder : List ℕ) (error : SeasonError) → ReadsToSeason files folder → Gives {X = Season} {Y = Season} (λ s. s) (Err error) (season_in files folder) → (error ≡ Memory) ⊎ ((file : File) × (error ≡ Read file))
+pub only-faults : (files : Files) (folder : List ℕ) (error : SeasonError) → ReadsToSeason files folder → SeasonGives {X = Season} {Y = Season} (λ s. s) (Err error) (season_in files folder) → (error ≡ Memory) ⊎ ((file : File) × (error ≡ Read file))
 only-faults files folder (Read file) made gives = inr (file, refl)
 only-faults files folder (Absent file) made gives = nothing-stands files folder (absent file) made gives
 only-faults files folder (TooLong file) made gives = nothing-stands files folder (too_long file) made gives
@@ -48,3 +54,13 @@ only-faults files folder Memory made gives = inl refl
 pub only-memory : (rules : Rulebook) (ending : Ending) → SomePathObeys rules → (ending ≡ By note.Memory) ⊎ ((ending ≡ By note.NoPath) × NoPathObeys rules) → ending ≡ By note.Memory
 only-memory rules ending some (inl memory) = memory
 only-memory rules ending some (inr (no_path, none)) = let (path, keeps) = (some_or_none_obeys_lem rules).some.0 some in absurd (none path keeps)
+
+-- ---- the job
+
+-- it comes to its outputs, whatever the shelf holds
+pub make-passes : (files : Option Files) (ask : Ask) → ask.job ≡ j.Make → IfSome files (λ held. ends_by held ask ≡ None)
+make-passes None ask make = tt
+make-passes (Some held) ask make = rw make refl
+
+pub make-gives : (files : Option Files) (ask : Ask) (outputs : Outputs) → ask.job ≡ j.Make → MakeGives ask outputs → Gives files ask outputs
+make-gives files ask outputs make gives = subst (λ job. GivesBy job files ask outputs) (sym make) gives

@@ -1,5 +1,5 @@
 -- What is written, and what stands after a fault of an output.
-use Rattle.std.proofs.Common.{◌≡◌, inl, inr, List, ℕ, [], ◌∷◌, true, false, refl, sym, ap, subst, append-nil, Some, None, Option}
+use Rattle.std.proofs.Common.{◌≡◌, inl, inr, List, ℕ, [], ◌∷◌, true, false, refl, sym, ap, subst, ◌∙◌, append-nil, append_assoc, Some, None, Option}
 use Rattle.std.specs.Prelude.{◌⊎◌, IfSome}
 use Rattle.clr_io.specs.Files.{Files}
 use Rattle.clr_cert.specs.Writing.{with_file}
@@ -35,6 +35,23 @@ module _ (cert text : List ℕ) (before now : Option Files) where
 
 pub cert-docs : (cert : List ℕ) → no_name cert ≡ false → docs_by j.Plan cert ≡ d.Certificate ∷ []
 cert-docs cert named = rw named refl
+
+-- ---- files in their order
+
+-- one of them, and then the others
+pub made-next : (before mid now : Option Files) (name bytes : List ℕ) (files : Files) → mid ≡ with_file before name bytes → now ≡ with_files mid files → now ≡ with_files before ((name, bytes) ∷ files)
+made-next before mid now name bytes files is then = then ∙ (ap (λ made. with_files made files) is ∙ joined before)
+  where
+    joined : (made : Option Files) → with_files (with_file made name bytes) files ≡ with_files made ((name, bytes) ∷ files)
+    joined None = refl
+    joined (Some held) = ap Some (append_assoc held ((name, bytes) ∷ []) files)
+
+-- a fault of the first, or of one behind it
+pub leaves-first : (named doc : Doc) (docs : List Doc) (before now : Option Files) (name bytes : List ℕ) (files : Files) → doc ≡ named → AddsFileFront before now name bytes → LeavesFiles (named ∷ docs) ((name, bytes) ∷ files) before now doc
+leaves-first named doc docs before now name bytes files is front = inl (is, front)
+
+pub leaves-next : (named doc : Doc) (docs : List Doc) (before mid now : Option Files) (name bytes : List ℕ) (files : Files) → mid ≡ with_file before name bytes → LeavesFiles docs files mid now doc → LeavesFiles (named ∷ docs) ((name, bytes) ∷ files) before now doc
+leaves-next named doc docs before mid now name bytes files is leaves = inr (subst (λ made. LeavesFiles docs files made now doc) is leaves)
 
 -- ---- all outputs
 

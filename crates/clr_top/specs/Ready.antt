@@ -6,12 +6,13 @@ use Rattle.clr_rules.specs.FirstPath.{SomePathObeys}
 use Rattle.clr_rules.specs.LiveSummaries.{live_pairs}
 use Rattle.clr_words.specs.declared.asked.Job.TheVariants as j
 use Rattle.clr_top.specs.Held.{IsWhole, entries_of}
+use Rattle.clr_top.specs.Making.{made_docs, made_files}
 use Rattle.clr_top.specs.Outputs.{Outputs}
 use Rattle.clr_top.specs.Plans.{cert_files}
 use Rattle.clr_top.specs.Runs.{docs_by}
 use Rattle.clr_top.specs.declared.program.PlanReady.{PlanReady}
 use Rattle.clr_top.specs.declared.program.Ready.{Ready}
-use Rattle.clr_top.specs.declared.program.Ready.TheVariants.{Plan, Report}
+use Rattle.clr_top.specs.declared.program.Ready.TheVariants.{Make, Plan, Report}
 
 -- ---- a plan
 
@@ -34,13 +35,16 @@ pub record IsPlanReady (ready : PlanReady) : Type 0 where
 abbrev pub outputs_of : Ready → Outputs
 outputs_of (Plan ready) = plan_outputs ready
 outputs_of (Report text) = record { made = []; report = text.items }
+outputs_of (Make season) = record { made = made_files season; report = season.text.items }
 
 -- the documents of its files
 abbrev pub docs_ready : Ready → List Doc
 docs_ready (Plan ready) = plan_docs ready
 docs_ready (Report text) = []
+docs_ready (Make season) = made_docs
 
 -- it can be written
 abbrev pub IsReady : Ready → Type 0
 IsReady (Plan ready) = IsPlanReady ready
 IsReady (Report text) = Unit {0}
+IsReady (Make season) = Unit {0}

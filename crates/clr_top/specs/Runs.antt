@@ -22,6 +22,7 @@ use Rattle.clr_report.specs.declared.note.Doc.TheVariants as d
 use Rattle.clr_report.specs.declared.note.Cause.{Cause}
 use Rattle.clr_report.specs.declared.note.Cause.TheVariants.{Words, Refused, NoPath, ReadFault, Absent, WriteFault, TooLong, Cells, Size, Base, CertificateNo, PolicyJson, PolicyShape, PolicyUnknown, PolicyRule, Memory}
 use Rattle.clr_top.specs.Judging.{JudgeReports, judge_ends}
+use Rattle.clr_top.specs.Making.{MakeGives, made_docs}
 use Rattle.clr_top.specs.Outputs.{AddsFront, Fails, Leaves, Outputs}
 use Rattle.clr_top.specs.Plans.{PlanGives, no_name}
 use Rattle.clr_top.specs.declared.ending.Ending.{Ending}
@@ -81,7 +82,7 @@ abbrev pub docs_by : Job → List ℕ → List Doc
 docs_by j.Plan cert = if no_name cert then [] else d.Certificate ∷ []
 docs_by j.Check cert = []
 docs_by j.Judge cert = []
-docs_by j.Make cert = []
+docs_by j.Make cert = made_docs
 
 -- those of what the words ask
 abbrev pub docs_asked : List (List ℕ) → List Doc
@@ -126,7 +127,7 @@ abbrev pub job_ends : Job → Files → Ask → Option Ending
 job_ends j.Plan held ask = season_ends plan_ends (season_in held ask.folder)
 job_ends j.Check held ask = Some NotYet
 job_ends j.Judge held ask = season_ends (λ season. judge_ends season ask held) (season_in held ask.folder)
-job_ends j.Make held ask = Some NotYet
+job_ends j.Make held ask = None
 
 -- how a run ends by the files, where it doesn't come to its outputs
 abbrev pub ends_by : Files → Ask → Option Ending
@@ -152,7 +153,7 @@ abbrev pub GivesBy : Job → Option Files → Ask → Outputs → Type 0
 GivesBy j.Plan files ask outputs = OfSeason files ask (λ season. PlanGives season ask outputs)
 GivesBy j.Check files ask outputs = ⊥
 GivesBy j.Judge files ask outputs = OfSeason files ask (λ season. (outputs.made ≡ []) × JudgeReports files season ask outputs.report)
-GivesBy j.Make files ask outputs = ⊥
+GivesBy j.Make files ask outputs = MakeGives ask outputs
 
 -- what a whole run writes
 abbrev pub Gives : Option Files → Ask → Outputs → Type 0
@@ -169,9 +170,9 @@ LeavesOutputs files words made_old made_new written_old written_new ending =
 
 -- ---- why a run ends without its report
 
--- The run ends so by the files.
+-- The job reads files, and the run ends so by them.
 abbrev pub ByFiles : Option Files → Ask → Ending → Type 0
-ByFiles files ask ending = IfSome files (λ held. ends_by held ask ≡ Some ending)
+ByFiles files ask ending = (ask.job ≢ j.Make) × IfSome files (λ held. ends_by held ask ≡ Some ending)
 
 -- an error of the season of a folder, and why it comes
 abbrev pub IsSeasonError : Option Files → List ℕ → ℕ → Type 0 → Ending → Type 0
@@ -182,6 +183,10 @@ IsSeasonError files folder taken ShelfRose ending =
 -- a job is asked that reads a season
 abbrev pub ReadsSeason : List (List ℕ) → Type 0
 ReadsSeason words = (ask : Ask) × (asked_of words ≡ Some ask) × (ask.job ≢ j.Make)
+
+-- the job is asked that makes a season, and reads nothing
+abbrev pub MakesSeason : List (List ℕ) → Type 0
+MakesSeason words = (ask : Ask) × (asked_of words ≡ Some ask) × (ask.job ≡ j.Make)
 
 -- the further file that a job reads behind its season
 abbrev pub further_doc : Job → Option Doc
@@ -220,7 +225,7 @@ ReadEnds files ask taken ShelfRose (By (PolicyShape branch)) = ByFiles files ask
 ReadEnds files ask taken ShelfRose (By (PolicyUnknown branch)) = ByFiles files ask (By (PolicyUnknown branch))
 ReadEnds files ask taken ShelfRose (By (PolicyRule branch rule)) = ByFiles files ask (By (PolicyRule branch rule))
 ReadEnds files ask taken ShelfRose (By Memory) = Unit {0}
-ReadEnds files ask taken ShelfRose NotYet = (ask.job ≢ j.Plan) × (ask.job ≢ j.Judge)
+ReadEnds files ask taken ShelfRose NotYet = ask.job ≡ j.Check
 
 -- Why a run ends before it writes: memory was wanting, the words ask nothing, or what is read.
 abbrev pub EndsBefore : Option Files → List (List ℕ) → ℕ → Type 0 → Ending → Type 0

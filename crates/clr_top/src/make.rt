@@ -1,21 +1,25 @@
-// The season that a seed makes, and the report on its plan.
-ghost use Rattle.std.specs.Prelude.{◌≡◌, ◌⊎◌, IfOk, IsErrOf, Ok, Some, string_bytes};
+// The season that a seed makes: its files, and the report on its plan.
+ghost use Rattle.std.specs.Prelude.{◌≡◌, ◌⊎◌, ◌≤◌, Contains, IfOk, IsErrOf, Ok, OnErr, OnOk, Some, string_bytes};
+ghost use Rattle.clr_cert.specs.Writing.{AddsFront, with_file};
+ghost use Rattle.clr_io.specs.Causes.{HasCause, Rose};
 ghost use Rattle.clr_make.specs.Reads.{ReadInFolders, files_in};
 ghost use Rattle.clr_report.specs.declared.note.Cause.{Cause};
+ghost use Rattle.clr_report.specs.declared.note.Doc.{Doc};
 ghost use Rattle.clr_rules.specs.FirstPath.{SomePathObeys};
 ghost use Rattle.clr_season.specs.Reads.{name_of, path_of, season_in};
 ghost use Rattle.clr_season.specs.Season.{IsSeason};
 ghost use Rattle.clr_season.specs.declared.reads.File.{File};
 ghost use Rattle.clr_season.specs.declared.reads.SeasonError.{SeasonError};
-ghost use Rattle.clr_top.specs.Making.{IsPlanReport, MakeGives};
+ghost use Rattle.clr_top.specs.Making.{IsPlanReport, MakeReports, made_docs, made_files};
+ghost use Rattle.clr_top.specs.Outputs.{LeavesFiles, with_files};
 ghost use Rattle.clr_top.specs.declared.ending.Ending.{Ending};
 ghost use Rattle.clr_words.specs.Asked.{IsAsk, ask_of};
 
 use crate::ending::{Ending, by};
 use crate::plan::plan_season;
-use clr_io::{MemoryShelf, Shelf};
+use clr_io::{Desk, Failed, MemoryShelf, Shelf, write_whole};
 use clr_make::{Made, folder_holds_made, make_files};
-use clr_report::Cause;
+use clr_report::{Cause, Doc};
 use clr_rules::Live;
 use clr_season::{File, Season, SeasonError, read_season};
 use clr_words::Asked;
@@ -24,11 +28,22 @@ use std::alloc::{AllocError, Global};
 // The number of bytes that a read of the made files gives at most.
 const PIECE: usize = 65_536;
 
+/// The names of a made season's files.
+#[derive(Drop)]
+pub(crate) struct MadeNames {
+    pub rules: String,
+    pub ladder: String,
+    pub stock: String,
+    pub demand: String,
+}
+
 /// A made season.
 #[derive(Drop)]
 pub(crate) struct MadeSeason {
     /// Its files.
     pub made: Made,
+    /// Their names.
+    pub names: MadeNames,
     /// The report on its plan.
     pub text: Vec<u8>,
 }
@@ -45,14 +60,33 @@ fn file_name(file: File) -> &'static str
     }
 }
 
-/// The name of a season's file in a folder.
-pub(crate) fn file_path(alloc: Global, folder: &str, file: File) -> Result<String, AllocError>
+// The name of a season's file in a folder.
+fn file_path(alloc: Global, folder: &str, file: File) -> Result<String, AllocError>
     ensures { IfOk result (λ path. string_bytes path ≡ path_of folder.now file) }
 {
     let mut path = String::from_str(alloc, folder)?;
     path.push_str("/")?;
     path.push_str(file_name(file))?;
     Ok(path)
+}
+
+// The names of the files in a folder.
+fn made_names(alloc: Global, folder: &str) -> Result<MadeNames, AllocError>
+    ensures rules { IfOk result (λ names. string_bytes names.rules ≡ path_of folder.now File.Rules) }
+    ensures ladder { IfOk result (λ names. string_bytes names.ladder ≡ path_of folder.now File.Ladder) }
+    ensures stock { IfOk result (λ names. string_bytes names.stock ≡ path_of folder.now File.Stock) }
+    ensures demand { IfOk result (λ names. string_bytes names.demand ≡ path_of folder.now File.Demand) }
+{
+    let rules = file_path(alloc, folder, File::Rules)?;
+    let ladder = file_path(alloc, folder, File::Ladder)?;
+    let stock = file_path(alloc, folder, File::Stock)?;
+    let demand = file_path(alloc, folder, File::Demand)?;
+    Ok(MadeNames {
+        rules,
+        ladder,
+        stock,
+        demand,
+    })
 }
 
 // A copy of a file's bytes under its name in a folder.
@@ -114,24 +148,76 @@ fn report_on(alloc: Global, season: &Season, asked: &Asked) -> Result<Vec<u8>, E
     }
 }
 
-/// Makes the files of the seed that is asked, and the report on the plan of their season.
+/// Makes the files of the seed that is asked, their names in the folder that is asked, and the report on the plan of their
+/// season. The desk isn't called.
 ///
 /// The season is read from the made files as from any others, from a shelf in memory. Nothing stands against it and some
 /// path obeys, so the only error is want of memory.
 pub(crate) fn make_season(alloc: Global, asked: &Asked) -> Result<MadeSeason, Ending>
     requires { IsAsk (ask_of asked.now) }
-    ensures gives { IfOk result (λ season. MakeGives (ask_of asked.now) season.made season.text.items) }
+    ensures reports { IfOk result (λ season. MakeReports (ask_of asked.now) season.made season.text.items) }
+    ensures files { IfOk result (λ season. made_files season ≡ files_in (string_bytes asked.now.folder) season.made) }
     ensures ends { (ending : Ending) → IsErrOf result ending → ending ≡ Ending.By Cause.Memory }
 {
+    let folder = asked.folder.as_str();
+    let Ok(names) = made_names(alloc, folder) else {
+        return Err(by(Cause::Memory));
+    };
     let Ok(made) = make_files(alloc, asked.seed) else {
         return Err(by(Cause::Memory));
     };
     // `Read` tells a fault of the shelf. None of its calls is to fail, so it doesn't come, though no clause says so.
-    let Ok(season) = read_made(alloc, asked.folder.as_str(), &made) else {
+    let Ok(season) = read_made(alloc, folder, &made) else {
         return Err(by(Cause::Memory));
     };
     match report_on(alloc, &season, asked) {
-        Ok(text) => Ok(MadeSeason { made, text }),
+        Ok(text) => Ok(MadeSeason { made, names, text }),
         Err(ending) => Err(ending),
     }
+}
+
+// ---- on the desk
+
+// Makes a file of this name, and writes the bytes to it.
+fn write_file<D: Desk>(desk: &mut D, name: &str, bytes: &[u8]) -> Result<(), Failed>
+    ensures ok { OnOk result (D.made desk.new ≡ with_file (D.made desk.old) name.now bytes.now) }
+    ensures front { OnErr result (AddsFront (D.made desk.old) (D.made desk.new) name.now bytes.now) }
+    ensures cause { HasCause (D.faults desk.old) (D.faults desk.new) result }
+{
+    desk.create(name)?;
+    write_whole(desk, bytes)
+}
+
+// Makes the file of a document. It fails with the document.
+fn write_document<D: Desk>(desk: &mut D, document: Doc, name: &str, bytes: &[u8]) -> Result<(), Doc>
+    ensures ok { OnOk result (D.made desk.new ≡ with_file (D.made desk.old) name.now bytes.now) }
+    ensures named { (doc : Doc) → IsErrOf result doc → doc ≡ document }
+    ensures front { OnErr result (AddsFront (D.made desk.old) (D.made desk.new) name.now bytes.now) }
+    ensures rose { OnErr result (Rose (D.faults desk.old) (D.faults desk.new)) }
+    ensures later { D.faults desk.old ≤ D.faults desk.new }
+{
+    match write_file(desk, name, bytes) {
+        Ok(()) => Ok(()),
+        Err(_) => Err(document),
+    }
+}
+
+/// Makes the files of a made season on the desk, in their order.
+///
+/// # Errors
+/// The document of the file at which the desk failed: those before it stand whole, of it a front or no file, and nothing of
+/// those behind it.
+pub(crate) fn write_season<D: Desk>(season: &MadeSeason, desk: &mut D) -> Result<(), Doc>
+    ensures ok { OnOk result (D.made desk.new ≡ with_files (D.made desk.old) (made_files season.now)) }
+    ensures named { (doc : Doc) → IsErrOf result doc → Contains made_docs doc }
+    ensures rose { OnErr result (Rose (D.faults desk.old) (D.faults desk.new)) }
+    ensures leaves { (doc : Doc) → IsErrOf result doc → LeavesFiles made_docs (made_files season.now) (D.made desk.old) (D.made desk.new) doc }
+    ensures later { D.faults desk.old ≤ D.faults desk.new }
+{
+    let names = &season.names;
+    let made = &season.made;
+    write_document(desk, Doc::Rules, names.rules.as_str(), &made.rules)?;
+    write_document(desk, Doc::Ladder, names.ladder.as_str(), &made.ladder)?;
+    write_document(desk, Doc::Stock, names.stock.as_str(), &made.stock)?;
+    write_document(desk, Doc::Demand, names.demand.as_str(), &made.demand)
 }

@@ -12,10 +12,11 @@ ghost use Rattle.clr_words.specs.declared.asked.Job.{Job};
 ghost use Rattle.clr_top.specs.declared.ending.Ending.{Ending};
 ghost use Rattle.clr_top.specs.Outputs.{Fails, Leaves, LeavesFiles, Wrote, with_files};
 ghost use Rattle.clr_top.specs.Ready.{IsPlanReady, IsReady, docs_ready, outputs_of, plan_docs, plan_outputs};
-ghost use Rattle.clr_top.specs.Runs.{Caused, EndsBefore, Exactly, Gives, IsSeasonError, LeavesOutputs, Notes, ReadEnds, ReadsSeason, Writes, docs_asked, docs_by, ending_asked, ending_by, ends_by, status_of};
+ghost use Rattle.clr_top.specs.Runs.{Caused, EndsBefore, Exactly, Gives, IsSeasonError, LeavesOutputs, MakesSeason, Notes, ReadEnds, ReadsSeason, Writes, docs_asked, docs_by, ending_asked, ending_by, ends_by, status_of};
 
 use crate::ending::{Ending, Status, by, doc, ending_status, write_note};
 use crate::judge::judge_season;
+use crate::make::{MadeSeason, make_season, write_season};
 use crate::plan::{Plan, plan_season};
 use clr_cert::{CertError, write_cert};
 use clr_io::{Desk, Shelf, Sink, write_whole};
@@ -99,6 +100,8 @@ enum Ready {
     Plan { ready: PlanReady },
     // A report.
     Report { text: Vec<u8> },
+    // The files of a made season, and the report on its plan.
+    Make { season: MadeSeason },
 }
 
 // The report that is to be written.
@@ -108,6 +111,7 @@ fn report(ready: &Ready) -> &[u8]
     match ready {
         Ready::Plan { ready } => &ready.plan.text,
         Ready::Report { text } => text,
+        Ready::Make { season } => &season.text,
     }
 }
 
@@ -153,6 +157,20 @@ fn ready_judge<H: Shelf>(alloc: Global, asked: &Asked, shelf: &mut H) -> Result<
     Ok(Ready::Report { text })
 }
 
+// The season of the seed that is asked.
+fn ready_make(alloc: Global, asked: &Asked) -> Result<Ready, Ending>
+    requires job { asked.now.job ≡ Job.Make }
+    requires facts { IsAsk (ask_of asked.now) }
+    ensures gives { IfOk result (λ ready. (files : Option Files) → Gives files (ask_of asked.now) (outputs_of ready)) }
+    ensures docs { IfOk result (λ ready. docs_ready ready ≡ docs_by asked.now.job (string_bytes asked.now.cert)) }
+    ensures passes { (files : Option Files) → IfSome files (λ held. ends_by held (ask_of asked.now) ≡ None) }
+    ensures ready { IfOk result (λ ready. IsReady ready) }
+    ensures ends { (ending : Ending) → IsErrOf result ending → ending ≡ Ending.By Cause.Memory }
+{
+    let season = make_season(alloc, asked)?;
+    Ok(Ready::Make { season })
+}
+
 // What the words ask, ready to be written.
 fn prepare<H: Shelf>(alloc: Global, words: &[String], shelf: &mut H) -> Result<Ready, Ending>
     ensures writes { IfOk result (λ ready. Writes (H.files shelf.old) (map string_bytes words.now) (λ outputs. outputs ≡ outputs_of ready)) }
@@ -167,7 +185,8 @@ fn prepare<H: Shelf>(alloc: Global, words: &[String], shelf: &mut H) -> Result<R
     match asked.job {
         Job::Plan => ready_plan(alloc, asked, shelf),
         Job::Judge => ready_judge(alloc, &asked, shelf),
-        _ => Err(Ending::NotYet),
+        Job::Make => ready_make(alloc, &asked),
+        Job::Check => Err(Ending::NotYet),
     }
 }
 
@@ -212,6 +231,10 @@ fn write_made<D: Desk>(alloc: Global, ready: &Ready, desk: &mut D) -> Result<(),
     match ready {
         Ready::Plan { ready } => write_plan(alloc, ready, desk),
         Ready::Report { .. } => Ok(()),
+        Ready::Make { season } => match write_season(season, desk) {
+            Ok(()) => Ok(()),
+            Err(doc) => Err(by(Cause::WriteFault { doc })),
+        },
     }
 }
 
@@ -267,15 +290,18 @@ fn work<H: Shelf, D: Desk, O: Sink>(
 /// `--steps` steps of the size `--step` gives; of the path that a search of `--nodes` tight prefixes finds with the
 /// multipliers of that bound; and, where the season is small enough, of the table for the stocks of all stores. `--seed` has
 /// no effect on a plan. `judge FOLDER` reads the season, and then the folder's policy.json from the shelf, and writes the
-/// judge report: of the policy's size in rungs and tests, and of what it earns.
+/// judge report: of the policy's size in rungs and tests, and of what it earns. `make FOLDER` reads nothing: it makes the
+/// season of `--seed`, makes its rules.json, ladder.csv, stock.csv and demand.csv in this order as files of the folder on the
+/// desk, and then writes the plan report of that season; it makes no certificate. `check FOLDER` isn't done yet.
 ///
-/// The order of the answers is: `Words`; `NotYet` of another job; file by file (rules.json, calendar.csv where the rules
-/// say that there is one, ladder.csv, stock.csv, demand.csv) `ReadFault`, `Absent`, `Limit` where the file is too long, and
-/// `Refused`; behind all files `Limit` where the cells are too many; for a plan `NoPath` where no path obeys; for a policy
-/// `ReadFault`, `Absent`, `Limit` where its file is too long, `PolicyNo` where it has no reading or a branch breaks a rule,
-/// and `Limit` where the base of the weights or the policy is too large; `WriteFault` of the certificate, and then of the
-/// report. `Memory` may come anywhere before the first byte is written to the desk or the
-/// report. For each status but `Ok` one note goes to `note`.
+/// The order of the answers is `Words`, and then by the job. Of `check` it is `NotYet`. Of `plan` and `judge` it is, file by
+/// file (rules.json, calendar.csv where the rules say that there is one, ladder.csv, stock.csv, demand.csv), `ReadFault`,
+/// `Absent`, `Limit` where the file is too long, and `Refused`; behind all files `Limit` where the cells are too many; for a
+/// plan `NoPath` where no path obeys; for a policy `ReadFault`, `Absent`, `Limit` where its file is too long, `PolicyNo` where
+/// it has no reading or a branch breaks a rule, and `Limit` where the base of the weights or the policy is too large. Then
+/// comes, for each of these and for `make`, `WriteFault`: of the files that the job makes, in their order, and then of the
+/// report. `Memory` may come anywhere before the first call of the desk or of the report's sink. For each status but `Ok` one
+/// note goes to `note`.
 pub fn run<H: Shelf, D: Desk, O: Sink, N: Sink>(
     alloc: Global,
     words: &[String],
@@ -301,6 +327,9 @@ pub fn run<H: Shelf, D: Desk, O: Sink, N: Sink>(
     // Where the shelf tells its files, each status that isn't a fault or want of memory comes exactly where the words and the files say so.
     ensures words { result ≡ Status.Words → asked_of (map string_bytes words.now) ≡ None }
     ensures exact { IfSome (H.files shelf.old) (λ held. Exactly result (ending_asked held (map string_bytes words.now))) }
+
+    // A season is made unless an output fails or memory is wanting, whatever the shelf holds.
+    ensures makes { MakesSeason (map string_bytes words.now) → (result ≡ Status.Ok) ⊎ ((result ≡ Status.WriteFault) ⊎ (result ≡ Status.Memory)) }
 
     // What is as before.
     ensures quiet { result ≢ Status.Ok → result ≢ Status.WriteFault → (O.written out.new ≡ O.written out.old) × (desk.new ≡ desk.old) }

@@ -1,7 +1,8 @@
-use Rattle.std.proofs.Common.{◌∙◌, sym, refl, map, string_bytes, Some}
-use Rattle.std.specs.Prelude.{IfSome}
+use Rattle.std.proofs.Common.{◌≡◌, ◌∙◌, inr, sym, subst, refl, map, string_bytes, Some}
+use Rattle.std.specs.Prelude.{◌⊎◌, IfSome}
+use Rattle.clr_top.specs.declared.ending.Status.TheVariants as s
 use Rattle.clr_top.specs.Runs.{Exactly, docs_asked, ending_asked}
-use Rattle.clr_top.proofs.Ends.{exactly-ok, exactly-told, only-memory, read-caused, words-caused, write-caused}
+use Rattle.clr_top.proofs.Ends.{exactly-ok, exactly-told, makes-caused, only-memory, read-caused, words-caused, write-caused}
 use Rattle.clr_top.proofs.program.run.Goals as goal
 
 pub returns-in-Ok-clause-exact : goal.returns-in-Ok-clause-exact
@@ -18,6 +19,11 @@ returns-in-Err-clause-write g c = λ is.
 pub returns-in-Err-clause-words : goal.returns-in-Err-clause-words
 returns-in-Err-clause-words g c = λ is.
     words-caused (g.H.Shelf.files c.args.shelf.now) (map string_bytes c.args.words.now) (g.H.Shelf.taken c.work.new.shelf) _ _ _ c.in-Err.ending (sym c.ending_status.ensures ∙ is) (c.in-Err.ensures.caused c.in-Err.ending refl)
+
+pub returns-in-Err-clause-makes : goal.returns-in-Err-clause-makes
+returns-in-Err-clause-makes g c = λ makes.
+    inr (subst (λ status. (status ≡ s.WriteFault) ⊎ (status ≡ s.Memory)) (sym c.ending_status.ensures)
+    (makes-caused (g.H.Shelf.files c.args.shelf.now) (map string_bytes c.args.words.now) (g.H.Shelf.taken c.work.new.shelf) _ _ _ c.in-Err.ending makes (c.in-Err.ensures.caused c.in-Err.ending refl)))
 
 pub returns-in-Err-clause-exact : goal.returns-in-Err-clause-exact
 returns-in-Err-clause-exact g c =
