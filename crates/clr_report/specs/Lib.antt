@@ -1,3 +1,4 @@
+pub mod CheckText
 pub mod Lines
 pub mod PlanText
 pub mod JudgeText

@@ -105,8 +105,21 @@ fn print_head(
     ensures { OnOk result (out.new.items ≡ out.old.items
         ++ season_line (sizes_of season.now) ++ path_line path.now ++ prices_line (map (price season.now.rules) path.now)) }
 {
-    let prices = week_prices(alloc, season, path)?;
     print_season(sizes_of(season), out)?;
+    print_weeks(alloc, season, path, out)
+}
+
+/// Appends the lines on a path and on its prices.
+pub(crate) fn print_weeks(
+    alloc: Global,
+    season: &Season,
+    path: &Path,
+    out: &mut Vec<u8>,
+) -> Result<(), AllocError>
+    requires { IsPath season.now.rules path.now }
+    ensures { OnOk result (out.new.items ≡ out.old.items ++ path_line path.now ++ prices_line (map (price season.now.rules) path.now)) }
+{
+    let prices = week_prices(alloc, season, path)?;
     print_path(path.rungs(), out)?;
     print_prices(&prices, out)?;
     Ok(())
@@ -232,7 +245,7 @@ fn print_gap(bound: i128, low: i128, out: &mut Vec<u8>) -> Result<(), AllocError
 }
 
 /// Appends a label and an amount of money, in units of 10^-8 of the currency.
-fn print_amount(label: &[u8], units: i128, out: &mut Vec<u8>) -> Result<(), AllocError>
+pub(crate) fn print_amount(label: &[u8], units: i128, out: &mut Vec<u8>) -> Result<(), AllocError>
     ensures { OnOk result (out.new.items ≡ out.old.items ++ (label.now ++ money_text units)) }
 {
     out.extend_from_slice(label)?;

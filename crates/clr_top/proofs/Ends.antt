@@ -14,7 +14,7 @@ use Rattle.clr_season.specs.declared.reads.SeasonError.TheVariants as e
 use Rattle.clr_report.specs.declared.note.Cause.TheVariants.{Words, Refused, NoPath, ReadFault, Absent, WriteFault, TooLong, Cells, Size, Base, CertificateNo, PolicyJson, PolicyShape, PolicyUnknown, PolicyRule, Memory}
 use Rattle.clr_report.specs.declared.note.Doc.{Doc}
 use Rattle.clr_top.specs.declared.ending.Ending.{Ending}
-use Rattle.clr_top.specs.declared.ending.Ending.TheVariants.{By, NotYet}
+use Rattle.clr_top.specs.declared.ending.Ending.TheVariants.{By}
 use Rattle.clr_top.specs.declared.ending.Status.{Status}
 use Rattle.clr_top.specs.declared.ending.Status.TheVariants as s
 use Rattle.clr_top.specs.Outputs.{Fails, Outputs}
@@ -36,6 +36,9 @@ plan-stops held ask stop plan is = rw (plan, is) refl
 
 pub judge-stops : StopsBySeason j.Judge
 judge-stops held ask stop judge is = subst (λ job. job_ends job held ask ≡ Some (stopped stop)) (sym judge) (rw is refl)
+
+pub check-stops : StopsBySeason j.Check
+check-stops held ask stop check is = subst (λ job. job_ends job held ask ≡ Some (stopped stop)) (sym check) (rw is refl)
 
 not-make : (job given : Job) → job ≡ given → given ≢ j.Make → job ≢ j.Make
 not-make job given is other = λ make. other (sym is ∙ make)
@@ -113,7 +116,6 @@ write-status (By (PolicyShape branch)) is = cc
 write-status (By (PolicyUnknown branch)) is = cc
 write-status (By (PolicyRule branch rule)) is = cc
 write-status (By Memory) is = cc
-write-status NotYet is = cc
 
 -- the status of a fault of an output tells that an output failed
 pub write-caused : (files : Option Files) (words : List (List ℕ)) (taken : ℕ) (ShelfRose DeskRose OutRose : Type 0) (ending : Ending) → status_of ending ≡ s.WriteFault → Caused files words taken ShelfRose DeskRose OutRose ending →
@@ -138,7 +140,6 @@ read-ends files ask taken ShelfRose (By (PolicyShape branch)) is ends = cc
 read-ends files ask taken ShelfRose (By (PolicyUnknown branch)) is ends = cc
 read-ends files ask taken ShelfRose (By (PolicyRule branch rule)) is ends = cc
 read-ends files ask taken ShelfRose (By Memory) is ends = cc
-read-ends files ask taken ShelfRose NotYet is ends = cc
 
 read-before : (files : Option Files) (words : List (List ℕ)) (taken : ℕ) (ShelfRose : Type 0) (ending : Ending) → status_of ending ≡ s.ReadFault → EndsBefore files words taken ShelfRose ending → ShelfRose × ReadsSeason words
 read-before files words taken ShelfRose ending is (inl memory) = let status : status_of ending ≡ s.Memory = ap status_of memory in cc
@@ -166,7 +167,6 @@ words-end files ask taken ShelfRose (By (PolicyShape branch)) is ends = cc
 words-end files ask taken ShelfRose (By (PolicyUnknown branch)) is ends = cc
 words-end files ask taken ShelfRose (By (PolicyRule branch rule)) is ends = cc
 words-end files ask taken ShelfRose (By Memory) is ends = cc
-words-end files ask taken ShelfRose NotYet is ends = cc
 
 pub words-caused : (files : Option Files) (words : List (List ℕ)) (taken : ℕ) (ShelfRose DeskRose OutRose : Type 0) (ending : Ending) → status_of ending ≡ s.Words → Caused files words taken ShelfRose DeskRose OutRose ending → asked_of words ≡ None
 words-caused files words taken ShelfRose DeskRose OutRose ending is (inl (inl memory)) = let status : status_of ending ≡ s.Memory = ap status_of memory in cc
@@ -191,7 +191,6 @@ make-ends files ask taken ShelfRose (By (PolicyShape branch)) make ends = absurd
 make-ends files ask taken ShelfRose (By (PolicyUnknown branch)) make ends = absurd (ends.0 make)
 make-ends files ask taken ShelfRose (By (PolicyRule branch rule)) make ends = absurd (ends.0 make)
 make-ends files ask taken ShelfRose (By Memory) make ends = refl
-make-ends files ask taken ShelfRose NotYet make ends = let check : ask.job ≡ j.Check = ends in cc
 
 -- what is made ends by a fault of an output, or for want of memory
 pub makes-caused : (files : Option Files) (words : List (List ℕ)) (taken : ℕ) (ShelfRose DeskRose OutRose : Type 0) (ending : Ending) → MakesSeason words → Caused files words taken ShelfRose DeskRose OutRose ending → (status_of ending ≡ s.WriteFault) ⊎ (status_of ending ≡ s.Memory)
@@ -216,9 +215,6 @@ memory-wanting (Some ending) = inr (inr refl)
 plan-dead : (given : Result Season Stop) (season : Season) → given ≡ Ok season → NoPathObeys season.rules → season_ends plan_ends given ≡ Some (By NoPath)
 plan-dead given season is none = let dead : is_live season.rules [] ≡ false = (some_or_none_obeys_lem season.rules).none.1 none in rw (is, dead) refl
 
-check-waits : (held : Files) (ask : Ask) → ask.job ≡ j.Check → ends_by held ask ≡ Some NotYet
-check-waits held ask check = rw check refl
-
 exactly-read : (held : Files) (ask : Ask) (taken : ℕ) (ShelfRose : Type 0) (ending : Ending) → ReadEnds (Some held) ask taken ShelfRose ending → Exactly (status_of ending) (ends_by held ask)
 exactly-read held ask taken ShelfRose (By Words) ends = absurd ends
 exactly-read held ask taken ShelfRose (By (Refused doc row column why)) ends = exactly-of s.Refused (ends_by held ask) (By (Refused doc row column why)) ends.1 refl
@@ -236,7 +232,6 @@ exactly-read held ask taken ShelfRose (By (PolicyShape branch)) ends = exactly-o
 exactly-read held ask taken ShelfRose (By (PolicyUnknown branch)) ends = exactly-of s.PolicyNo (ends_by held ask) (By (PolicyUnknown branch)) ends.1 refl
 exactly-read held ask taken ShelfRose (By (PolicyRule branch rule)) ends = exactly-of s.PolicyNo (ends_by held ask) (By (PolicyRule branch rule)) ends.1 refl
 exactly-read held ask taken ShelfRose (By Memory) ends = memory-wanting (ends_by held ask)
-exactly-read held ask taken ShelfRose NotYet ends = exactly-of s.NotYet (ends_by held ask) NotYet (check-waits held ask ends) refl
 
 no-words : (held : Files) (words : List (List ℕ)) → asked_of words ≡ None → ending_asked held words ≡ Some (By Words)
 no-words held words none = rw none refl

@@ -11,7 +11,8 @@ use Rattle.clr_season.specs.Season.{IsSeason, Season}
 use Rattle.clr_report.specs.declared.note.Cause.TheVariants.{Words, Refused, NoPath, ReadFault, Absent, WriteFault, TooLong, Cells, Size, Base, CertificateNo, PolicyJson, PolicyShape, PolicyUnknown, PolicyRule, Memory}
 use Rattle.clr_report.specs.declared.note.Doc.{Doc}
 use Rattle.clr_top.specs.declared.ending.Ending.{Ending}
-use Rattle.clr_top.specs.declared.ending.Ending.TheVariants.{By, NotYet}
+use Rattle.clr_top.specs.declared.ending.Ending.TheVariants.{By}
+use Rattle.clr_top.specs.Checking.{CheckReports, check_ends}
 use Rattle.clr_top.specs.FileEnds.{EndsBy}
 use Rattle.clr_top.specs.Judging.{JudgeReports, judge_ends}
 use Rattle.clr_top.specs.Outputs.{Outputs}
@@ -60,7 +61,6 @@ module _ (job : Job) (ends : Season → Ask → Files → Option Ending) (behind
   further-ends doc taken before mid now (By (PolicyUnknown branch)) reads named first given = says (By (PolicyUnknown branch)) reads given
   further-ends doc taken before mid now (By (PolicyRule branch rule)) reads named first given = says (By (PolicyRule branch rule)) reads given
   further-ends doc taken before mid now (By Memory) reads named first given = tt
-  further-ends doc taken before mid now NotYet reads named first given = absurd given
 
 -- ---- judge
 
@@ -69,3 +69,11 @@ judge-behind held ask season of is = subst (λ job. job_ends job held ask ≡ ju
 
 pub judge-gives : (files : Option Files) (ask : Ask) (outputs : Outputs) → ask.job ≡ j.Judge → OfSeason files ask (λ season. (outputs.made ≡ []) × JudgeReports files season ask outputs.report) → Gives files ask outputs
 judge-gives files ask outputs judge gives = subst (λ job. GivesBy job files ask outputs) (sym judge) gives
+
+-- ---- check
+
+pub check-behind : EndsBehind j.Check check_ends
+check-behind held ask season of is = subst (λ job. job_ends job held ask ≡ check_ends season ask held) (sym of) (rw is refl)
+
+pub check-gives : (files : Option Files) (ask : Ask) (outputs : Outputs) → ask.job ≡ j.Check → OfSeason files ask (λ season. (outputs.made ≡ []) × CheckReports files season ask outputs.report) → Gives files ask outputs
+check-gives files ask outputs check gives = subst (λ job. GivesBy job files ask outputs) (sym check) gives

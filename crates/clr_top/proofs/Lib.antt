@@ -1,5 +1,6 @@
 pub mod Asking
 pub mod Certifying
+pub mod Checked
 pub mod Ends
 pub mod Further
 pub mod JointAsking

@@ -6,7 +6,7 @@ use Rattle.clr_report.specs.declared.note.Doc.{Doc}
 use Rattle.clr_report.specs.declared.note.Cause.{Cause}
 use Rattle.clr_report.specs.declared.note.Cause.TheVariants.{Words, Refused, NoPath, ReadFault, Absent, WriteFault, TooLong, Cells, Size, Base, CertificateNo, PolicyJson, PolicyShape, PolicyUnknown, PolicyRule, Memory}
 use Rattle.clr_top.specs.declared.ending.Ending.{Ending}
-use Rattle.clr_top.specs.declared.ending.Ending.TheVariants.{By, NotYet}
+use Rattle.clr_top.specs.declared.ending.Ending.TheVariants.{By}
 
 -- The files say that it ends so, where they are told.
 abbrev pub FilesSay : Option Files → (Files → Option Ending) → Cause → Type 0
@@ -31,4 +31,3 @@ EndsBy files ends doc taken faults_old faults_new (By (PolicyShape branch)) = Fi
 EndsBy files ends doc taken faults_old faults_new (By (PolicyUnknown branch)) = FilesSay files ends (PolicyUnknown branch)
 EndsBy files ends doc taken faults_old faults_new (By (PolicyRule branch rule)) = FilesSay files ends (PolicyRule branch rule)
 EndsBy files ends doc taken faults_old faults_new (By Memory) = Unit {0}
-EndsBy files ends doc taken faults_old faults_new NotYet = ⊥

@@ -21,12 +21,13 @@ use Rattle.clr_report.specs.declared.note.Doc.{Doc}
 use Rattle.clr_report.specs.declared.note.Doc.TheVariants as d
 use Rattle.clr_report.specs.declared.note.Cause.{Cause}
 use Rattle.clr_report.specs.declared.note.Cause.TheVariants.{Words, Refused, NoPath, ReadFault, Absent, WriteFault, TooLong, Cells, Size, Base, CertificateNo, PolicyJson, PolicyShape, PolicyUnknown, PolicyRule, Memory}
+use Rattle.clr_top.specs.Checking.{CheckReports, check_ends}
 use Rattle.clr_top.specs.Judging.{JudgeReports, judge_ends}
 use Rattle.clr_top.specs.Making.{MakeGives, made_docs}
 use Rattle.clr_top.specs.Outputs.{AddsFront, Fails, Leaves, Outputs}
 use Rattle.clr_top.specs.Plans.{PlanGives, no_name}
 use Rattle.clr_top.specs.declared.ending.Ending.{Ending}
-use Rattle.clr_top.specs.declared.ending.Ending.TheVariants.{By, NotYet}
+use Rattle.clr_top.specs.declared.ending.Ending.TheVariants.{By}
 use Rattle.clr_top.specs.declared.ending.Status.{Status}
 use Rattle.clr_top.specs.declared.ending.Status.TheVariants as s
 
@@ -45,7 +46,6 @@ number_of s.CertificateNo = 7
 number_of s.Memory = 8
 number_of s.PolicyNo = 9
 number_of s.Absent = 10
-number_of s.NotYet = 11
 
 abbrev pub status_by_cause : Cause → Status
 status_by_cause Words = s.Words
@@ -68,12 +68,10 @@ status_by_cause Memory = s.Memory
 -- the status by which a run ends
 abbrev pub status_of : Ending → Status
 status_of (By cause) = status_by_cause cause
-status_of NotYet = s.NotYet
 
 -- the text of the note
 abbrev pub note_of : Ending → List ℕ
 note_of (By cause) = note_text_of cause
-note_of NotYet = codes "not yet: job" ++ 10 ∷ []
 
 -- ---- what is asked
 
@@ -125,7 +123,7 @@ plan_ends season = if is_live season.rules [] then None else Some (By NoPath)
 
 abbrev pub job_ends : Job → Files → Ask → Option Ending
 job_ends j.Plan held ask = season_ends plan_ends (season_in held ask.folder)
-job_ends j.Check held ask = Some NotYet
+job_ends j.Check held ask = season_ends (λ season. check_ends season ask held) (season_in held ask.folder)
 job_ends j.Judge held ask = season_ends (λ season. judge_ends season ask held) (season_in held ask.folder)
 job_ends j.Make held ask = None
 
@@ -151,7 +149,7 @@ OfSeason files ask Holds = (season : Season) × IfSome files (λ held. season_in
 
 abbrev pub GivesBy : Job → Option Files → Ask → Outputs → Type 0
 GivesBy j.Plan files ask outputs = OfSeason files ask (λ season. PlanGives season ask outputs)
-GivesBy j.Check files ask outputs = ⊥
+GivesBy j.Check files ask outputs = OfSeason files ask (λ season. (outputs.made ≡ []) × CheckReports files season ask outputs.report)
 GivesBy j.Judge files ask outputs = OfSeason files ask (λ season. (outputs.made ≡ []) × JudgeReports files season ask outputs.report)
 GivesBy j.Make files ask outputs = MakeGives ask outputs
 
@@ -191,7 +189,7 @@ MakesSeason words = (ask : Ask) × (asked_of words ≡ Some ask) × (ask.job ≡
 -- the further file that a job reads behind its season
 abbrev pub further_doc : Job → Option Doc
 further_doc j.Plan = None
-further_doc j.Check = None
+further_doc j.Check = Some d.Certificate
 further_doc j.Judge = Some d.Policy
 further_doc j.Make = None
 
@@ -225,7 +223,6 @@ ReadEnds files ask taken ShelfRose (By (PolicyShape branch)) = ByFiles files ask
 ReadEnds files ask taken ShelfRose (By (PolicyUnknown branch)) = ByFiles files ask (By (PolicyUnknown branch))
 ReadEnds files ask taken ShelfRose (By (PolicyRule branch rule)) = ByFiles files ask (By (PolicyRule branch rule))
 ReadEnds files ask taken ShelfRose (By Memory) = Unit {0}
-ReadEnds files ask taken ShelfRose NotYet = ask.job ≡ j.Check
 
 -- Why a run ends before it writes: memory was wanting, the words ask nothing, or what is read.
 abbrev pub EndsBefore : Option Files → List (List ℕ) → ℕ → Type 0 → Ending → Type 0

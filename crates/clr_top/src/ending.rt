@@ -31,8 +31,6 @@ pub enum Status {
     PolicyNo,
     /// A file that is needed isn't held.
     Absent,
-    /// The job that is asked can't be done yet.
-    NotYet,
 }
 
 impl Status {
@@ -52,7 +50,6 @@ impl Status {
             Status::Memory => 8,
             Status::PolicyNo => 9,
             Status::Absent => 10,
-            Status::NotYet => 11,
         }
     }
 }
@@ -62,8 +59,6 @@ impl Status {
 pub enum Ending {
     /// By a cause that the notes tell.
     By { cause: Cause },
-    /// By a job that can't be done yet.
-    NotYet,
 }
 
 /// The end by a cause that the notes tell.
@@ -102,7 +97,6 @@ pub(crate) fn ending_status(ending: Ending) -> Status
 {
     match ending {
         Ending::By { cause } => status_by(cause),
-        Ending::NotYet => Status::NotYet,
     }
 }
 
@@ -117,12 +111,6 @@ pub(crate) fn doc(file: File) -> Doc
         File::Stock => Doc::Stock,
         File::Demand => Doc::Demand,
     }
-}
-
-fn not_yet_text() -> &'static str
-    ensures { result.now ≡ note_of Ending.NotYet }
-{
-    "not yet: job\n"
 }
 
 fn write_told<N: Sink>(note: &mut N, cause: Cause) -> Result<(), Failed>
@@ -141,7 +129,6 @@ pub(crate) fn write_note<N: Sink>(note: &mut N, ending: Ending)
 {
     let written = match ending {
         Ending::By { cause } => write_told(note, cause),
-        Ending::NotYet => write_whole(note, not_yet_text().as_bytes()),
     };
     let _ = written;
 }

@@ -225,7 +225,7 @@ fn words_are_read(rt: HostRuntime) -> Result<(), Fail> {
         (&["plan", "-f"], Status::Words, USAGE),
         (&["plan", "f", "g"], Status::Words, USAGE),
         (&["plan", "f", "--steps", "101"], Status::Words, USAGE),
-        (&["check", "f"], Status::NotYet, "not yet: job"),
+        (&["check", "f"], Status::Absent, "absent: certificate"),
         (&["judge", "f"], Status::Absent, "absent: policy.json"),
         (
             &["make", "f", "--cert", "c"],
@@ -270,7 +270,6 @@ fn statuses_have_their_numbers(rt: HostRuntime) {
         (Status::Memory, 8),
         (Status::PolicyNo, 9),
         (Status::Absent, 10),
-        (Status::NotYet, 11),
     ];
     for (status, number) in numbers {
         assert_eq!(rt; status.number(), number);

@@ -7,6 +7,7 @@
 mod cases;
 #[cfg(test)]
 mod certs;
+mod check;
 mod ending;
 mod entries;
 mod exact;

@@ -14,6 +14,7 @@ ghost use Rattle.clr_top.specs.Outputs.{Fails, Leaves, LeavesFiles, Wrote, with_
 ghost use Rattle.clr_top.specs.Ready.{IsPlanReady, IsReady, docs_ready, outputs_of, plan_docs, plan_outputs};
 ghost use Rattle.clr_top.specs.Runs.{Caused, EndsBefore, Exactly, Gives, IsSeasonError, LeavesOutputs, MakesSeason, Notes, ReadEnds, ReadsSeason, Writes, docs_asked, docs_by, ending_asked, ending_by, ends_by, status_of};
 
+use crate::check::check_season;
 use crate::ending::{Ending, Status, by, doc, ending_status, write_note};
 use crate::judge::judge_season;
 use crate::make::{MadeSeason, make_season, write_season};
@@ -141,6 +142,22 @@ fn ready_plan<H: Shelf>(alloc: Global, asked: Asked, shelf: &mut H) -> Result<Re
     Ok(Ready::Plan { ready })
 }
 
+// The report on the certificate that is asked.
+fn ready_check<H: Shelf>(alloc: Global, asked: &Asked, shelf: &mut H) -> Result<Ready, Ending>
+    requires job { asked.now.job ≡ Job.Check }
+    ensures gives { IfOk result (λ ready. Gives (H.files shelf.old) (ask_of asked.now) (outputs_of ready)) }
+    ensures docs { IfOk result (λ ready. docs_ready ready ≡ docs_by asked.now.job (string_bytes asked.now.cert)) }
+    ensures passes { IfOk result (λ ready. IfSome (H.files shelf.old) (λ held. ends_by held (ask_of asked.now) ≡ None)) }
+    ensures ready { IfOk result (λ ready. IsReady ready) }
+    ensures ends { (ending : Ending) → IsErrOf result ending → ReadEnds (H.files shelf.old) (ask_of asked.now) (H.taken shelf.new) (Rose (H.faults shelf.old) (H.faults shelf.new)) ending }
+    ensures files { H.files shelf.new ≡ H.files shelf.old }
+    ensures later { H.faults shelf.old ≤ H.faults shelf.new }
+{
+    let season = asked_season(alloc, asked, shelf)?;
+    let text = check_season(alloc, &season, asked, shelf)?;
+    Ok(Ready::Report { text })
+}
+
 // The report on the policy of the folder that is asked.
 fn ready_judge<H: Shelf>(alloc: Global, asked: &Asked, shelf: &mut H) -> Result<Ready, Ending>
     requires job { asked.now.job ≡ Job.Judge }
@@ -184,9 +201,9 @@ fn prepare<H: Shelf>(alloc: Global, words: &[String], shelf: &mut H) -> Result<R
     let asked = read_asked(alloc, words)?;
     match asked.job {
         Job::Plan => ready_plan(alloc, asked, shelf),
+        Job::Check => ready_check(alloc, &asked, shelf),
         Job::Judge => ready_judge(alloc, &asked, shelf),
         Job::Make => ready_make(alloc, &asked),
-        Job::Check => Err(Ending::NotYet),
     }
 }
 
@@ -289,15 +306,17 @@ fn work<H: Shelf, D: Desk, O: Sink>(
 /// desk, unless the name is `-`, and then writes the plan report: of the bound over all policies that a descent of
 /// `--steps` steps of the size `--step` gives; of the path that a search of `--nodes` tight prefixes finds with the
 /// multipliers of that bound; and, where the season is small enough, of the table for the stocks of all stores. `--seed` has
-/// no effect on a plan. `judge FOLDER` reads the season, and then the folder's policy.json from the shelf, and writes the
+/// no effect on a plan. `check FOLDER` reads the season, and then the certificate of the name `--cert`, or the folder's
+/// certificate.csv where the name is `-`, from the shelf, and writes the check report: of what the certificate claims. `judge FOLDER` reads the season, and then the folder's policy.json from the shelf, and writes the
 /// judge report: of the policy's size in rungs and tests, and of what it earns. `make FOLDER` reads nothing: it makes the
 /// season of `--seed`, makes its rules.json, ladder.csv, stock.csv and demand.csv in this order as files of the folder on the
-/// desk, and then writes the plan report of that season; it makes no certificate. `check FOLDER` isn't done yet.
+/// desk, and then writes the plan report of that season; it makes no certificate.
 ///
-/// The order of the answers is `Words`, and then by the job. Of `check` it is `NotYet`. Of `plan` and `judge` it is, file by
+/// The order of the answers is `Words`, and then by the job. Of `plan`, `check` and `judge` it is, file by
 /// file (rules.json, calendar.csv where the rules say that there is one, ladder.csv, stock.csv, demand.csv), `ReadFault`,
 /// `Absent`, `Limit` where the file is too long, and `Refused`; behind all files `Limit` where the cells are too many; for a
-/// plan `NoPath` where no path obeys; for a policy `ReadFault`, `Absent`, `Limit` where its file is too long, `PolicyNo` where
+/// plan `NoPath` where no path obeys; for a certificate `ReadFault`, `Absent`, `Limit` where it is too long, and
+/// `CertificateNo` of its first fault; for a policy `ReadFault`, `Absent`, `Limit` where its file is too long, `PolicyNo` where
 /// it has no reading or a branch breaks a rule, and `Limit` where the base of the weights or the policy is too large. Then
 /// comes, for each of these and for `make`, `WriteFault`: of the files that the job makes, in their order, and then of the
 /// report. `Memory` may come anywhere before the first call of the desk or of the report's sink. For each status but `Ok` one
