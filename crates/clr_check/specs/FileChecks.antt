@@ -10,7 +10,7 @@ use Rattle.clr_check.specs.Standing.{IsClaimOf, claims_of}
 -- the file was read to its end: the certificate is accepted, or it has a fault
 abbrev pub IsJudged : Result Claims CheckError → Type 0
 IsJudged (Ok claims) = Unit {0}
-IsJudged (Err (No no)) = Unit {0}
+IsJudged (Err (No refusal)) = Unit {0}
 IsJudged (Err Failed) = ⊥
 IsJudged (Err Absent) = ⊥
 IsJudged (Err (TooLong max)) = ⊥

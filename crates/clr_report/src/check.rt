@@ -3,7 +3,8 @@
 
 ghost use Rattle.clr_check.specs.Standing.{claims_of};
 ghost use Rattle.clr_num.specs.Money.{money_text};
-ghost use Rattle.clr_report.specs.CheckText.{check_text, claimed_bound_line, claimed_exact_line};
+ghost use Rattle.clr_report.specs.CheckText.{accepted_line, check_text, claimed_bound_line, claimed_exact_line};
+ghost use Rattle.clr_report.specs.PlanText.{season_line, sizes_of};
 ghost use Rattle.clr_rules.specs.Rules.{IsPath};
 ghost use Rattle.std.specs.Prelude.{◌≡◌, ◌++◌, IfOk, OnOk, Some};
 
@@ -21,13 +22,27 @@ pub fn check_text(alloc: Global, season: &Season, claims: &Claims) -> Result<Vec
     ensures { IfOk result (λ text. text.items ≡ check_text season.now (claims_of claims.now)) }
 {
     let mut text = Vec::new(alloc);
-    print_season(sizes_of(season), &mut text)?;
-    text.extend_from_slice(b"certificate yes\n")?;
+    print_opening(season, &mut text)?;
     print_weeks(alloc, season, &claims.path, &mut text)?;
     print_revenue(claims.low, claims.high, &mut text)?;
     print_claimed_bound(claims.bound, &mut text)?;
     print_claimed_exact(claims.exact, &mut text)?;
     Ok(text)
+}
+
+/// Appends the lines on the season's sizes and that the certificate is accepted.
+fn print_opening(season: &Season, out: &mut Vec<u8>) -> Result<(), AllocError>
+    ensures { OnOk result (out.new.items ≡ out.old.items ++ (season_line (sizes_of season.now) ++ accepted_line)) }
+{
+    print_season(sizes_of(season), out)?;
+    print_accepted(out)
+}
+
+/// Appends the line that the certificate is accepted.
+fn print_accepted(out: &mut Vec<u8>) -> Result<(), AllocError>
+    ensures { OnOk result (out.new.items ≡ out.old.items ++ accepted_line) }
+{
+    out.extend_from_slice(b"certificate yes\n")
 }
 
 /// Appends the line on a bound, in units of 10^-8 of the currency.

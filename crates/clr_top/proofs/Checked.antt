@@ -41,9 +41,9 @@ cert_long : (season : Season) (given : Option (List ℕ)) → IsSomeAnd given (�
 cert_long season None h = absurd h
 cert_long season (Some bytes) h = rw (lt-leb (length bytes) most_cert h) refl
 
-cert_no : (season : Season) (taken : ℕ) (no : No) (given : Option (List ℕ)) → taken ≤ most_cert → IsSomeAnd given (λ bytes. taken ≡ length bytes) → IsSomeAnd given (λ bytes. first_no season bytes ≡ Some no) → ends_of_cert season given ≡ Some (By (CertificateNo no))
-cert_no season taken no None few read first = absurd read
-cert_no season taken no (Some bytes) few read first = let short : length bytes ≤ most_cert = omega arith in rw (le-leb (length bytes) most_cert short, first) refl
+cert_no : (season : Season) (taken : ℕ) (refusal : No) (given : Option (List ℕ)) → taken ≤ most_cert → IsSomeAnd given (λ bytes. taken ≡ length bytes) → IsSomeAnd given (λ bytes. first_no season bytes ≡ Some refusal) → ends_of_cert season given ≡ Some (By (CertificateNo refusal))
+cert_no season taken refusal None few read first = absurd read
+cert_no season taken refusal (Some bytes) few read first = let short : length bytes ≤ most_cert = omega arith in rw (le-leb (length bytes) most_cert short, first) refl
 
 cert_ok : (season : Season) (taken : ℕ) (given : Option (List ℕ)) → taken ≤ most_cert → IsSomeAnd given (λ bytes. taken ≡ length bytes) → IsSomeAnd given (λ bytes. first_no season bytes ≡ None) → ends_of_cert season given ≡ None
 cert_ok season taken None few read first = absurd read
@@ -58,7 +58,7 @@ pub record Says (files : Option Files) (season : Season) (name : List ℕ) (take
   pub too_long : IsErrOf {T = Claims} (Err error) (c.TooLong 268435456) ↔ ((268435456 < taken) × ¬ IsErrOf {T = Claims} (Err error) c.Memory)
   pub limit : (max : ℕ) → IsErrOf {T = Claims} (Err error) (c.TooLong max) → max ≡ 268435456
   pub longer : IsErrOf {T = Claims} (Err error) (c.TooLong 268435456) → IfSome files (λ all. IsSomeAnd (held name all) (λ bytes. 268435456 < length bytes))
-  pub refused : IsJudged (Err error) → IfSome files (λ all. IsSomeAnd (held name all) (λ bytes. (no : No) → IsErrOf {T = Claims} (Err error) (c.No no) ↔ (first_no season bytes ≡ Some no)))
+  pub refused : IsJudged (Err error) → IfSome files (λ all. IsSomeAnd (held name all) (λ bytes. (refusal : No) → IsErrOf {T = Claims} (Err error) (c.No refusal) ↔ (first_no season bytes ≡ Some refusal)))
   pub read : IsJudged (Err error) → IfSome files (λ all. IsSomeAnd (held name all) (λ bytes. taken ≡ length bytes))
 
 with_held : (P Q : List ℕ → Type 0) (given : Option (List ℕ)) → ((bytes : List ℕ) → P bytes → Q bytes) → IsSomeAnd given P → IsSomeAnd given Q
@@ -76,19 +76,19 @@ unfolding check_ends
 long_said None season ask longer = tt
 long_said (Some files) season ask longer = cert_long season (held (cert_path ask) files) longer
 
-no_said : (files : Option Files) (season : Season) (ask : Ask) (taken : ℕ) (no : No) → taken ≤ most_cert → IfSome files (λ all. IsSomeAnd (held (cert_path ask) all) (λ bytes. taken ≡ length bytes)) →
-    IfSome files (λ all. IsSomeAnd (held (cert_path ask) all) (λ bytes. (other : No) → IsErrOf {T = Claims} {E = CheckError} (Err (c.No no)) (c.No other) ↔ (first_no season bytes ≡ Some other))) →
-    IfSome files (λ all. check_ends season ask all ≡ Some (By (CertificateNo no)))
+no_said : (files : Option Files) (season : Season) (ask : Ask) (taken : ℕ) (refusal : No) → taken ≤ most_cert → IfSome files (λ all. IsSomeAnd (held (cert_path ask) all) (λ bytes. taken ≡ length bytes)) →
+    IfSome files (λ all. IsSomeAnd (held (cert_path ask) all) (λ bytes. (other : No) → IsErrOf {T = Claims} {E = CheckError} (Err (c.No refusal)) (c.No other) ↔ (first_no season bytes ≡ Some other))) →
+    IfSome files (λ all. check_ends season ask all ≡ Some (By (CertificateNo refusal)))
 unfolding check_ends
-no_said None season ask taken no few read refused = tt
-no_said (Some files) season ask taken no few read refused =
-    cert_no season taken no (held (cert_path ask) files) few read
-    (with_held (λ bytes. (other : No) → IsErrOf {T = Claims} {E = CheckError} (Err (c.No no)) (c.No other) ↔ (first_no season bytes ≡ Some other)) (λ bytes. first_no season bytes ≡ Some no) (held (cert_path ask) files) (λ bytes h. (h no).0 refl) refused)
+no_said None season ask taken refusal few read refused = tt
+no_said (Some files) season ask taken refusal few read refused =
+    cert_no season taken refusal (held (cert_path ask) files) few read
+    (with_held (λ bytes. (other : No) → IsErrOf {T = Claims} {E = CheckError} (Err (c.No refusal)) (c.No other) ↔ (first_no season bytes ≡ Some other)) (λ bytes. first_no season bytes ≡ Some refusal) (held (cert_path ask) files) (λ bytes h. (h refusal).0 refl) refused)
 
 -- no more than the limit was taken, unless the answer says so
-few_taken : (taken : ℕ) (no : No) → IsErrOf {T = Claims} {E = CheckError} (Err (c.No no)) (c.TooLong 268435456) ↔ ((268435456 < taken) × ¬ IsErrOf {T = Claims} {E = CheckError} (Err (c.No no)) c.Memory) → taken ≤ most_cert
-few_taken taken no too_long = elim (cases_lt most_cert taken) [
-  | inl over ↦ let e : ◌≡◌ {A = Result Claims CheckError} (Err (c.No no)) (Err (c.TooLong 268435456)) = too_long.1 (over, λ is. cc is) in cc e
+few_taken : (taken : ℕ) (refusal : No) → IsErrOf {T = Claims} {E = CheckError} (Err (c.No refusal)) (c.TooLong 268435456) ↔ ((268435456 < taken) × ¬ IsErrOf {T = Claims} {E = CheckError} (Err (c.No refusal)) c.Memory) → taken ≤ most_cert
+few_taken taken refusal too_long = elim (cases_lt most_cert taken) [
+  | inl over ↦ let e : ◌≡◌ {A = Result Claims CheckError} (Err (c.No refusal)) (Err (c.TooLong 268435456)) = too_long.1 (over, λ is. cc is) in cc e
   | inr within ↦ within
 ]
 
@@ -105,7 +105,7 @@ error_ends files season ask taken faults_old faults_new (c.TooLong max) says =
         IfSome fs (λ all. IsSomeAnd (held (cert_path a) all) (λ bytes. 268435456 < length bytes)) →
         (268435456 < t) × IfSome fs (λ all. check_ends s a all ≡ Some (By (TooLong Certificate 268435456)))
     long_ends fs s a t too_long longer = ((too_long.0 refl).0, long_said fs s a longer)
-error_ends files season ask taken faults_old faults_new (c.No no) says = no_said files season ask taken no (few_taken taken no says.too_long) (says.read tt) (says.refused tt)
+error_ends files season ask taken faults_old faults_new (c.No refusal) says = no_said files season ask taken refusal (few_taken taken refusal says.too_long) (says.read tt) (says.refused tt)
 error_ends files season ask taken faults_old faults_new c.Memory says = tt
 
 -- ---- by a report
@@ -125,7 +125,7 @@ reported files season ask bytes claims text read proof told = (
   record {
     read = read;
     accepted = proof.claimed.accepted;
-    holds = rw (← proof.claimed.claims) proof.holds;
-    told = told ∙ ap (check_text season) proof.claimed.claims;
+    holds = rw (← proof.claimed.same) proof.holds;
+    told = told ∙ ap (check_text season) proof.claimed.same;
   },
 )

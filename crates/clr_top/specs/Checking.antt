@@ -28,7 +28,7 @@ cert_path ask = if bytes_eq ask.cert (codes "-") then ask.folder ++ 47 ∷ codes
 -- by the first fault of its bytes
 abbrev pub ends_of_fault : Option No → Option Ending
 ends_of_fault None = None
-ends_of_fault (Some no) = Some (By (CertificateNo no))
+ends_of_fault (Some refusal) = Some (By (CertificateNo refusal))
 
 -- by a file: that it isn't held, that it is too long, and then its first fault
 abbrev pub ends_of_cert : Season → Option (List ℕ) → Option Ending
@@ -44,7 +44,7 @@ abbrev pub ending_unaccepted : CheckError → Ending
 ending_unaccepted c.Failed = By (ReadFault Certificate)
 ending_unaccepted c.Absent = By (Absent Certificate)
 ending_unaccepted (c.TooLong max) = By (TooLong Certificate max)
-ending_unaccepted (c.No no) = By (CertificateNo no)
+ending_unaccepted (c.No refusal) = By (CertificateNo refusal)
 ending_unaccepted c.Memory = By Memory
 
 -- ---- what it reports
