@@ -1,6 +1,6 @@
 -- What is written, and what stands after a fault of an output.
 use Rattle.std.proofs.Common.{◌≡◌, inl, inr, List, ℕ, [], ◌∷◌, true, false, refl, sym, ap, subst, ◌∙◌, append-nil, append_assoc, Some, None, Option}
-use Rattle.std.specs.Prelude.{◌⊎◌, IfSome}
+use Rattle.std.specs.Prelude.{◌⊎◌, IfOk, IfSome, IsErrOf, OnErr, Result, Ok, Err}
 use Rattle.clr_io.specs.Files.{Files}
 use Rattle.clr_cert.specs.Writing.{with_file}
 use Rattle.clr_cert.specs.Writing.{AddsFront as AddsFileFront}
@@ -46,6 +46,14 @@ made-next before mid now name bytes files is then = then ∙ (ap (λ made. with_
     joined None = refl
     joined (Some held) = ap Some (append_assoc held ((name, bytes) ∷ []) files)
 
+-- the document at which the desk failed, and what holds then
+pub same-document : {X : Type 0} (failed doc : Doc) → IsErrOf {T = X} {E = Doc} (Err failed) doc → failed ≡ doc
+same-document failed doc is = cc
+
+pub failed-so : {X : Type 0} {P : Type 0} (result : Result X Doc) (doc : Doc) → IsErrOf result doc → OnErr result P → P
+failed-so (Ok x) doc is fact = cc
+failed-so (Err failed) doc is fact = fact
+
 -- a fault of the first, or of one behind it
 pub leaves-first : (named doc : Doc) (docs : List Doc) (before now : Option Files) (name bytes : List ℕ) (files : Files) → doc ≡ named → AddsFileFront before now name bytes → LeavesFiles (named ∷ docs) ((name, bytes) ∷ files) before now doc
 leaves-first named doc docs before now name bytes files is front = inl (is, front)
@@ -70,3 +78,8 @@ writing-caused files words taken ShelfRose DeskRose OutRose docs ending same pas
 pub writing-memory : (ending : Ending) (Holds : Type 0) → (ending ≡ By Memory) ⊎ ((doc : Doc) × (ending ≡ By (WriteFault doc))) → ((doc : Doc) → ending ≡ By (WriteFault doc) → ⊥) → (ending ≡ By Memory → Holds) → Holds
 writing-memory ending Holds (inl memory) unfailed holds = holds memory
 writing-memory ending Holds (inr (doc, by)) unfailed holds = absurd (unfailed doc by)
+
+-- what follows of each value that is given
+pub if-ok : {T E : Type 0} (result : Result T E) (P Q : T → Type 0) → ((x : T) → P x → Q x) → IfOk result P → IfOk result Q
+if-ok (Ok x) P Q next is = next x is
+if-ok (Err error) P Q next is = tt

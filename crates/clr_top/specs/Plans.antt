@@ -15,6 +15,7 @@ use Rattle.clr_model.specs.StoreValue.{Multipliers}
 use Rattle.clr_mult.specs.Tables.{mult_at}
 use Rattle.clr_subgrad.specs.Run.{IsFirstLeast, run_bound, run_table}
 use Rattle.clr_search.specs.Found.{IsBestOfAll, IsFound}
+use Rattle.clr_cert.specs.Accepts.{Accepts}
 use Rattle.clr_cert.specs.Entries.{CertEntries}
 use Rattle.clr_cert.specs.Lines.{cert_text}
 use Rattle.clr_cert.specs.Planned.{AreEntriesOf}
@@ -84,6 +85,7 @@ no_name cert = bytes_eq cert (codes "-")
 abbrev pub cert_files : List ℕ → List ℕ → Files
 cert_files cert text = if no_name cert then [] else (cert, text) ∷ []
 
--- the certificate of a season's plan, where one is asked, and the report on it
+-- the certificate of a season's plan, which is accepted, where one is asked, and the report on the plan
 abbrev pub PlanGives : Season → Ask → Outputs → Type 0
-PlanGives season ask outputs = (entries : CertEntries) × (outputs.made ≡ cert_files ask.cert (cert_text season entries)) × IsPlanText season ask entries outputs.report
+PlanGives season ask outputs =
+    (entries : CertEntries) × (outputs.made ≡ cert_files ask.cert (cert_text season entries)) × Accepts season (cert_text season entries) × IsPlanText season ask entries outputs.report

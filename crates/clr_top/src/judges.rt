@@ -29,7 +29,7 @@ const RELABELLED: Files<'static> = Files {
 const CUT_WHERE_MUCH_IS_LEFT: &[u8] =
     b"{\"rung\":1,\"then\":{\"store\":\"a\",\"left_at_most\":1,\"yes\":{\"rung\":1},\"no\":{\"rung\":2}}}";
 
-const CASES: [(Files<'static>, &[u8], Said); 9] = [
+const CASES: [(Files<'static>, &[u8], Said); 10] = [
     // Two units left earn 8.00 at the lower price, one earns 5.00 behind a sale for 10.00.
     (
         TWO_WEEKS,
@@ -49,6 +49,12 @@ const CASES: [(Files<'static>, &[u8], Said); 9] = [
     (
         TWO_WEEKS,
         b"{\"rung\":2,\"then\":{\"store\":\"a\",\"left_at_most\":1,\"yes\":{\"rung\":2},\"no\":{\"rung\":1}}}",
+        Said::Note(Status::PolicyNo, "policy no: branch 2 rise"),
+    ),
+    // No more than two units are ever left, so that the branch of `no` is never reached.
+    (
+        TWO_WEEKS,
+        b"{\"rung\":2,\"then\":{\"store\":\"a\",\"left_at_most\":2,\"yes\":{\"rung\":2},\"no\":{\"rung\":1}}}",
         Said::Note(Status::PolicyNo, "policy no: branch 2 rise"),
     ),
     (

@@ -79,9 +79,12 @@ impl MadeRun {
     }
 }
 
-// A season is made on this desk. Each call on the shelf would fail.
-fn made_on(alloc: Global, seed: &str, mut desk: MemoryDesk) -> Result<MadeRun, AllocError> {
-    let words = words_of(alloc, &["make", "out", "--seed", seed])?;
+// Of a plan in few steps.
+const QUICK: [&str; 6] = ["make", "out", "--steps", "0", "--nodes", "0"];
+
+// The words are done on this desk. Each call on the shelf would fail.
+fn made_on(alloc: Global, words: &[&str], mut desk: MemoryDesk) -> Result<MadeRun, AllocError> {
+    let words = words_of(alloc, words)?;
     let mut shelf = MemoryShelf::new(Vec::new(alloc), 1, list_of(alloc, &[1, 2, 3, 4])?);
     let mut out = MemorySink::new(alloc, 4096, 16, Vec::new(alloc))?;
     let mut note = MemorySink::new(alloc, 256, 7, Vec::new(alloc))?;
@@ -94,10 +97,10 @@ fn made_on(alloc: Global, seed: &str, mut desk: MemoryDesk) -> Result<MadeRun, A
     })
 }
 
-// A season is made, on a desk whose calls of these numbers fail.
-fn made(alloc: Global, seed: &str, fail: &[u64]) -> Result<MadeRun, AllocError> {
+// The words are done on a desk whose calls of these numbers fail.
+fn made(alloc: Global, words: &[&str], fail: &[u64]) -> Result<MadeRun, AllocError> {
     let desk = MemoryDesk::new(alloc, 4, 100_000, 65_536, list_of(alloc, fail)?)?;
-    made_on(alloc, seed, desk)
+    made_on(alloc, words, desk)
 }
 
 // A shelf with the files that stand on a desk.
@@ -125,7 +128,7 @@ fn plans_the_same(alloc: Global, made: &MadeRun) -> Result<bool, AllocError> {
 fn seasons_are_made_and_planned(rt: HostRuntime) -> Result<(), Fail> {
     let alloc = rt.alloc();
     for case in &CASES {
-        let first = made(alloc, case.seed, &[])?;
+        let first = made(alloc, &["make", "out", "--seed", case.seed], &[])?;
         assert!(rt;
             first.reports(case.report) && first.is_named(),
             "{}",
@@ -146,23 +149,16 @@ fn seasons_are_made_and_planned(rt: HostRuntime) -> Result<(), Fail> {
 #[test]
 fn seasons_are_made_again(rt: HostRuntime) -> Result<(), Fail> {
     let alloc = rt.alloc();
-    let first = made(alloc, "1", &[])?;
-    let second = made(alloc, "1", &[])?;
+    let first = made(alloc, &["make", "out"], &[])?;
+    let second = made(alloc, &["make", "out", "--seed", "1"], &[])?;
+    assert!(rt; first.reports(CASES[0].report) && second.reports(CASES[0].report));
     assert!(rt; first.desk.count() == 4 && second.desk.count() == 4);
-    assert!(rt; first.out.bytes() == second.out.bytes());
     for index in 0..4 {
         assert!(rt;
             first.desk.bytes(index) == second.desk.bytes(index),
             "{index}"
         );
     }
-    let words = words_of(alloc, &["make", "out"])?;
-    let mut shelf = MemoryShelf::new(Vec::new(alloc), 1, Vec::new(alloc));
-    let mut desk = MemoryDesk::new(alloc, 4, 100_000, 100, Vec::new(alloc))?;
-    let mut out = MemorySink::new(alloc, 4096, 16, Vec::new(alloc))?;
-    let mut note = MemorySink::new(alloc, 256, 7, Vec::new(alloc))?;
-    let status = run(alloc, &words, &mut shelf, &mut desk, &mut out, &mut note);
-    assert!(rt; status == Status::Ok && out.bytes() == first.out.bytes());
     Ok(())
 }
 
@@ -170,21 +166,27 @@ fn seasons_are_made_again(rt: HostRuntime) -> Result<(), Fail> {
 #[test]
 fn desks_fail_while_seasons_are_made(rt: HostRuntime) -> Result<(), Fail> {
     let alloc = rt.alloc();
-    let whole = made(alloc, "1", &[])?;
-    assert!(rt; made(alloc, "1", &[1])?.failed(0, b"write fault: rules.json\n"));
-    assert!(rt; made(alloc, "1", &[2])?.failed(1, b"write fault: rules.json\n"));
-    assert!(rt; made(alloc, "1", &[3])?.failed(1, b"write fault: ladder.csv\n"));
-    assert!(rt; made(alloc, "1", &[5])?.failed(2, b"write fault: stock.csv\n"));
-    assert!(rt; made(alloc, "1", &[9])?.failed(4, b"write fault: demand.csv\n"));
-    assert!(rt; made(alloc, "1", &[10])?.reports(whole.out.bytes()));
+    let whole = made(alloc, &QUICK, &[10])?;
+    assert!(rt; whole.reports(whole.out.bytes()) && whole.out.bytes().starts_with(b"season 24 "));
+    for (call, count, note) in [
+        (1, 0, "write fault: rules.json\n"),
+        (2, 1, "write fault: rules.json\n"),
+        (3, 1, "write fault: ladder.csv\n"),
+        (5, 2, "write fault: stock.csv\n"),
+    ] {
+        let run = made(alloc, &QUICK, &[call])?;
+        assert!(rt; run.failed(count, note.as_bytes()), "{call}");
+    }
     // Of the file that failed a front stands.
-    let cut = made(alloc, "1", &[9])?;
+    let cut = made(alloc, &QUICK, &[9])?;
+    assert!(rt; cut.failed(4, b"write fault: demand.csv\n"));
     assert!(rt; cut.desk.count() == 4 && whole.desk.count() == 4);
     assert!(rt; cut.desk.bytes(2) == whole.desk.bytes(2));
-    assert!(rt; cut.desk.bytes(3) == &whole.desk.bytes(3)[..65_536]);
+    assert!(rt; cut.desk.bytes(3).len() == 65_536);
+    assert!(rt; whole.desk.bytes(3).starts_with(cut.desk.bytes(3)));
     // The room ends in the midst of demand.csv.
     let desk = MemoryDesk::new(alloc, 4, 1000, 65_536, Vec::new(alloc))?;
-    assert!(rt; made_on(alloc, "1", desk)?.failed(4, b"write fault: demand.csv\n"));
+    assert!(rt; made_on(alloc, &QUICK, desk)?.failed(4, b"write fault: demand.csv\n"));
     Ok(())
 }
 
@@ -194,7 +196,7 @@ fn made_seasons_stand_in_real_folders(rt: HostRuntime) -> Result<(), Fail> {
     fs::create_dir(&rt, "made")?;
     let mut reports = Vec::new(alloc);
     for job in ["make", "plan"] {
-        let words = words_of(alloc, &[job, "made"])?;
+        let words = words_of(alloc, &[job, "made", "--steps", "0", "--nodes", "0"])?;
         let mut shelf = FileShelf::new(&rt);
         let mut desk = FileDesk::new(&rt);
         let mut out = MemorySink::new(alloc, 4096, 16, Vec::new(alloc))?;
@@ -203,9 +205,10 @@ fn made_seasons_stand_in_real_folders(rt: HostRuntime) -> Result<(), Fail> {
         assert!(rt; status == Status::Ok, "{job}");
         reports.push(out)?;
     }
-    assert!(rt; reports.iter().all(|out| out.bytes() == CASES[0].report));
+    assert!(rt; reports.len() == 2);
+    assert!(rt; reports[0].bytes() == reports[1].bytes());
     // A folder that isn't there takes no files.
-    let words = words_of(alloc, &["make", "made/no"])?;
+    let words = words_of(alloc, &["make", "made/no", "--steps", "0", "--nodes", "0"])?;
     let mut shelf = FileShelf::new(&rt);
     let mut desk = FileDesk::new(&rt);
     let mut out = MemorySink::new(alloc, 4096, 16, Vec::new(alloc))?;

@@ -1,5 +1,7 @@
 // The plan of a season.
 ghost use Rattle.std.specs.Prelude.{◌≡◌, ◌⊎◌, ◌↔◌, ◌<◌, IfOk, IsErrOf, IsTrue, length};
+ghost use Rattle.clr_cert.specs.Accepts.{Accepts};
+ghost use Rattle.clr_cert.specs.Lines.{cert_text};
 ghost use Rattle.clr_joint.specs.Tables.{IsJointOf};
 ghost use Rattle.clr_model.specs.Fits.{fits};
 ghost use Rattle.clr_mult.specs.Tables.{mult_at};
@@ -31,6 +33,7 @@ use clr_search::{Found, search};
 use clr_season::Season;
 use clr_subgrad::{Descent, descend};
 use clr_words::Asked;
+use clr_written::planned_is_accepted;
 use std::alloc::{AllocError, Global};
 
 // What the report tells.
@@ -145,8 +148,11 @@ fn plan_of(alloc: Global, season: &Season, live: &Live, asked: &Asked) -> Result
     requires asked { IsAsk (ask_of asked.now) }
     ensures plan { IfOk result (λ plan. IsPlanText season.now (ask_of asked.now) (entries_of plan.entries) plan.text.items) }
     ensures whole { IfOk result (λ plan. IsWhole season.now plan.entries) }
+    ensures accepted { IfOk result (λ plan. Accepts season.now (cert_text season.now (entries_of plan.entries))) }
 {
     let computed = plan_facts(alloc, season, live, asked)?;
+    computed.descent.mult.sums_to_zero();
+    planned_is_accepted();
     let text = plan_text(alloc, season, &computed.facts)?;
     let entries = plan_entries(
         alloc,
@@ -171,6 +177,7 @@ pub(crate) fn plan_season(
     requires asked { IsAsk (ask_of asked.now) }
     ensures plan { IfOk result (λ plan. IsPlanText season.now (ask_of asked.now) (entries_of plan.entries) plan.text.items) }
     ensures whole { IfOk result (λ plan. IsWhole season.now plan.entries) }
+    ensures accepted { IfOk result (λ plan. Accepts season.now (cert_text season.now (entries_of plan.entries))) }
     ensures any { IfOk result (λ plan. SomePathObeys season.now.rules) }
     ensures ends { (ending : Ending) → IsErrOf result ending → (ending ≡ Ending.By Cause.Memory) ⊎ ((ending ≡ Ending.By Cause.NoPath) × NoPathObeys season.now.rules) }
 {

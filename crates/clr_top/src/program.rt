@@ -1,6 +1,6 @@
 //! The program's one call: it does what the words ask, over any shelf, desk and sinks.
 
-ghost use Rattle.std.specs.Prelude.{◌≡◌, ◌≢◌, ◌⊎◌, ◌≤◌, ◌<◌, [], Contains, IfOk, IfSome, IsErrOf, OnOk, Ok, Err, Some, None, map, string_bytes};
+ghost use Rattle.std.specs.Prelude.{◌≡◌, ◌≢◌, ◌⊎◌, ◌≤◌, ◌<◌, [], Contains, IfOk, IfSome, IsErrOf, OnOk, Ok, Err, Some, None, Option, map, string_bytes};
 ghost use Rattle.clr_io.specs.Causes.{Rose};
 ghost use Rattle.clr_io.specs.Files.{Files};
 ghost use Rattle.clr_report.specs.declared.note.Cause.{Cause};
@@ -180,7 +180,6 @@ fn ready_make(alloc: Global, asked: &Asked) -> Result<Ready, Ending>
     requires facts { IsAsk (ask_of asked.now) }
     ensures gives { IfOk result (λ ready. (files : Option Files) → Gives files (ask_of asked.now) (outputs_of ready)) }
     ensures docs { IfOk result (λ ready. docs_ready ready ≡ docs_by asked.now.job (string_bytes asked.now.cert)) }
-    ensures passes { (files : Option Files) → IfSome files (λ held. ends_by held (ask_of asked.now) ≡ None) }
     ensures ready { IfOk result (λ ready. IsReady ready) }
     ensures ends { (ending : Ending) → IsErrOf result ending → ending ≡ Ending.By Cause.Memory }
 {

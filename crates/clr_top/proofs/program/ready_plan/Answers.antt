@@ -15,7 +15,7 @@ returns-in_err-plan-clause-ends g c = λ ending is.
 
 pub returns-clause-gives : goal.returns-clause-gives
 returns-clause-gives g c =
-    plan-gives (g.H.Shelf.files c.args.shelf.now) (ask_of c.args.asked) _ c.requires.job (c.in_ok-season.season, c.in_ok-season.ensures.season, c.in_ok-season.ensures.facts, (entries_of c.in_ok-plan.plan.entries, refl, c.in_ok-plan.ensures.plan))
+    plan-gives (g.H.Shelf.files c.args.shelf.now) (ask_of c.args.asked) _ c.requires.job (c.in_ok-season.season, c.in_ok-season.ensures.season, c.in_ok-season.ensures.facts, (entries_of c.in_ok-plan.plan.entries, refl, c.in_ok-plan.ensures.accepted, c.in_ok-plan.ensures.plan))
 
 pub returns-clause-passes : goal.returns-clause-passes
 returns-clause-passes g c = plan-passes (g.H.Shelf.files c.args.shelf.now) (ask_of c.args.asked) c.in_ok-season.season c.requires.job c.in_ok-season.ensures.season c.in_ok-plan.ensures.any
