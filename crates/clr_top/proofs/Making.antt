@@ -1,6 +1,6 @@
 -- What made files read to, and how their job ends.
-use Rattle.std.proofs.Common.{◌≡◌, inl, inr, refl, sym, subst, ℕ, List}
-use Rattle.std.specs.Prelude.{◌⊎◌, IfOk, IfSome, Option, Some, None, Result, Ok, Err}
+use Rattle.std.proofs.Common.{◌≡◌, inl, inr, refl, sym, subst, arith, ℕ, List}
+use Rattle.std.specs.Prelude.{◌⊎◌, Contains, IfOk, IfSome, Option, Some, None, Result, Ok, Err}
 use Rattle.clr_io.specs.Files.{Files}
 use Rattle.clr_words.specs.Asked.{Ask}
 use Rattle.clr_words.specs.declared.asked.Job.TheVariants as j
@@ -16,7 +16,9 @@ use Rattle.clr_rules.specs.FirstPath.{NoPathObeys}
 use Rattle.clr_rules.specs.Rules.{Rulebook}
 use Rattle.clr_rules.proofs.FirstPaths.{some_or_none_obeys_lem}
 use Rattle.clr_report.specs.declared.note.Cause.TheVariants as note
-use Rattle.clr_top.specs.Making.{MakeGives}
+use Rattle.clr_report.specs.declared.note.Doc.{Doc}
+use Rattle.clr_report.specs.declared.note.Doc.TheVariants as d
+use Rattle.clr_top.specs.Making.{MakeGives, made_docs}
 use Rattle.clr_top.specs.Outputs.{Outputs}
 use Rattle.clr_top.specs.Runs.{Gives, GivesBy, ends_by}
 use Rattle.clr_top.specs.declared.ending.Ending.{Ending}
@@ -64,3 +66,14 @@ make-passes (Some held) ask make = rw make refl
 
 pub make-gives : (files : Option Files) (ask : Ask) (outputs : Outputs) → ask.job ≡ j.Make → MakeGives ask outputs → Gives files ask outputs
 make-gives files ask outputs make gives = subst (λ job. GivesBy job files ask outputs) (sym make) gives
+
+-- ---- its documents
+
+pub made-ladder : (doc : Doc) → doc ≡ d.Ladder → Contains made_docs doc
+made-ladder doc is = (1, omega arith, sym is)
+
+pub made-stock : (doc : Doc) → doc ≡ d.Stock → Contains made_docs doc
+made-stock doc is = (2, omega arith, sym is)
+
+pub made-demand : (doc : Doc) → doc ≡ d.Demand → Contains made_docs doc
+made-demand doc is = (3, omega arith, sym is)

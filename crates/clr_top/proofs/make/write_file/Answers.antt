@@ -19,5 +19,5 @@ returns-clause-front g c =
       front.0,
       file_written (g.D.Desk.made c.args.desk.now) (g.D.Desk.made c.write_whole.new.sink) c.args.name.now (take front.0 c.args.bytes.now)
           (g.D.Sink.around c.create.new.self) (g.D.Sink.around c.write_whole.new.sink) (g.D.Sink.written c.create.new.self) (g.D.Sink.written c.write_whole.new.sink)
-          (new.0 ∙ ap (option_map around_last) c.in_ok-create.ensures.ok) (new.1 ∙ ap (option_and_then last_bytes) c.in_ok-create.ensures.ok) end.0 end.1 c.write_whole.ensures.around front.1.1,
+          (new.0 ∙ ap (option_map around_last) c.in_ok-create.ensures.ok) (new.1 ∙ ap (option_and_then last_bytes) c.in_ok-create.ensures.ok) end.0 end.1 c.write_whole.ensures.around front.2,
     ))
