@@ -49,7 +49,7 @@ const REPORT: &[u8] =
     b"season 1 stores 2 weeks 2 rungs base 2\npath 1 2\nprices 10.00 4.00\nrevenue 11.00000000 11.00000000\nbest yes\nbound 11.50000000 step 0\ngap 0.50000000\nexact 11.50000000 11.50000000 first 1\n";
 
 // The text of the certificate behind these first lines.
-fn text_behind(alloc: Global, first: &str) -> Result<Vec<u8>, AllocError> {
+pub(crate) fn text_behind(alloc: Global, first: &str) -> Result<Vec<u8>, AllocError> {
     let mut text = first.as_bytes().to_vec(alloc)?;
     for line in LINES {
         text.extend_from_slice(line.as_bytes())?;
@@ -58,13 +58,32 @@ fn text_behind(alloc: Global, first: &str) -> Result<Vec<u8>, AllocError> {
     Ok(text)
 }
 
+// The worked certificate, with a line of a row in the place of its own; row 36 stands behind its last.
+pub(crate) fn worked_certificate(
+    alloc: Global,
+    row: usize,
+    line: &str,
+) -> Result<Vec<u8>, AllocError> {
+    let mut text = b"clearance certificate 1\n".to_vec(alloc)?;
+    for (index, told) in LINES.iter().enumerate() {
+        let shown = if index + 2 == row { line } else { *told };
+        text.extend_from_slice(shown.as_bytes())?;
+        text.extend_from_slice(b"\n")?;
+    }
+    if row == 36 {
+        text.extend_from_slice(line.as_bytes())?;
+        text.extend_from_slice(b"\n")?;
+    }
+    Ok(text)
+}
+
 // What a run answered, and what stands on its desk and sinks.
 #[derive(Drop)]
-struct Certified {
-    status: Status,
-    desk: MemoryDesk,
-    out: MemorySink,
-    note: MemorySink,
+pub(crate) struct Certified {
+    pub status: Status,
+    pub desk: MemoryDesk,
+    pub out: MemorySink,
+    pub note: MemorySink,
 }
 
 impl Certified {
@@ -90,7 +109,7 @@ impl Certified {
 }
 
 // The plan with a certificate `c`, on this desk and with these faults of the report's sink.
-fn certify(
+pub(crate) fn certify(
     alloc: Global,
     files: Files<'_>,
     mut desk: MemoryDesk,

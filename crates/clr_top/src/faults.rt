@@ -218,7 +218,7 @@ fn each_call_fails_once(rt: HostRuntime) -> Result<(), Fail> {
 #[test]
 fn words_are_read(rt: HostRuntime) -> Result<(), Fail> {
     let alloc = rt.alloc();
-    let cases: [(&[&str], Status, &str); 10] = [
+    let cases: [(&[&str], Status, &str); 9] = [
         (&[], Status::Words, USAGE),
         (&["plan"], Status::Words, USAGE),
         (&["paint", "f"], Status::Words, USAGE),
@@ -227,11 +227,6 @@ fn words_are_read(rt: HostRuntime) -> Result<(), Fail> {
         (&["plan", "f", "--steps", "101"], Status::Words, USAGE),
         (&["check", "f"], Status::Absent, "absent: certificate"),
         (&["judge", "f"], Status::Absent, "absent: policy.json"),
-        (
-            &["make", "f", "--cert", "c"],
-            Status::NotYet,
-            "not yet: job",
-        ),
         (&["plan", "e"], Status::Absent, "absent: rules.json"),
     ];
     for (words, status, note) in cases {

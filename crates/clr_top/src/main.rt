@@ -8,6 +8,8 @@ mod cases;
 #[cfg(test)]
 mod certs;
 mod check;
+#[cfg(test)]
+mod checks;
 mod ending;
 mod entries;
 mod exact;
