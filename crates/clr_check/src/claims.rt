@@ -16,3 +16,14 @@ pub struct Claims {
     /// passes.
     pub exact: Option<(i128, i128)>,
 }
+
+/// What stands after the last line feed.
+#[derive(Clone, Copy)]
+pub(crate) enum Rest {
+    /// No byte.
+    Nothing,
+    /// Bytes, and no more than a line may have.
+    Few,
+    /// More bytes than a line may have.
+    Many,
+}

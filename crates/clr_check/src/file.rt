@@ -1,18 +1,28 @@
 // The certificate of a file, which is checked while it is read.
 ghost use Rattle.clr_cert.specs.Accepts.{Accepts, cert_claims, first_no};
 ghost use Rattle.clr_cert.specs.declared.no.No.{No};
-ghost use Rattle.clr_check.specs.FileChecks.{IsJudged, IsProved};
+ghost use Rattle.clr_check.specs.FileChecks.{IsFedWhole, IsJudged, IsOfReading, IsProved, rest_by};
+ghost use Rattle.clr_check.specs.Laws.{ClaimsHold};
+ghost use Rattle.clr_check.specs.Standing.{Stands};
 ghost use Rattle.clr_io.specs.Causes.{Rose};
 ghost use Rattle.clr_io.specs.Files.{held};
 ghost use Rattle.clr_season.specs.Season.{Season};
 ghost use Rattle.std.specs.Prelude.{◌≡◌, ℕ, ◌+◌, ◌++◌, ◌<◌, ◌≤◌, ◌↔◌, false, length, List, None, Some, IfOk, IfSome, IsErrOf, IsOk, IsSomeAnd};
 
-use crate::claims::Claims;
+use crate::checker::Checker;
+use crate::claims::{Claims, Rest};
+use crate::laws::{accepted_claims_hold, accepted_or_refused};
 use clr_cert::No;
-use clr_io::Shelf;
+use clr_io::{Line, Lines, Shelf};
 use clr_season::Season;
 use std::alloc::Global;
 use thiserror::Error;
+
+/// The most bytes of a certificate.
+const MOST_BYTES: u64 = 268_435_456;
+
+/// The most bytes of one of its lines, without the line feed.
+const MOST_LINE: u32 = 65_536;
 
 /// Why a certificate was not accepted.
 #[derive(Clone, Copy, Debug, PartialEq, Eq, Error)]
@@ -37,6 +47,62 @@ pub enum CheckError {
     Memory,
 }
 
+// What stands behind the last line feed: too many bytes, or these.
+fn rest_of(bytes: &[u8], long: bool) -> Rest
+    ensures { result ≡ rest_by bytes.now long }
+{
+    if long {
+        Rest::Many
+    } else if bytes.is_empty() {
+        Rest::Nothing
+    } else {
+        Rest::Few
+    }
+}
+
+// Feeds the checker all lines that come, and tells what stands behind the last. Their faults are kept by the checker, and the
+// file is read to its end.
+fn feed_all<H: Shelf>(
+    checker: &mut Checker,
+    lines: &mut Lines,
+    shelf: &mut H,
+) -> Result<Rest, CheckError>
+    requires taken { H.taken shelf.old ≡ lines.old.taken }
+    requires goes_on { lines.old.ended ≡ false }
+    requires limits { (lines.old.longest ≡ 65_536) × (lines.old.max ≡ 268_435_456) }
+    requires few { lines.old.taken ≤ 268_435_456 }
+    ensures fed { IfOk result (λ rest. (season : Season) (fed : List (List ℕ)) → Stands season fed checker.old → IsFedWhole season fed lines.old.held (H.rest shelf.old) checker.new rest) }
+    ensures read { IfOk result (λ _. IfSome (H.rest shelf.old) (λ behind. H.taken shelf.new ≡ lines.old.taken + length behind)) }
+    ensures answers { IsOfReading result }
+    ensures too_long { IsErrOf result (CheckError.TooLong 268_435_456) ↔ (268_435_456 < H.taken shelf.new) }
+    ensures longer { IsErrOf result (CheckError.TooLong 268_435_456) → IfSome (H.rest shelf.old) (λ behind. 268_435_456 < lines.old.taken + length behind) }
+    ensures failed { IsErrOf result CheckError.Failed → Rose (H.faults shelf.old) (H.faults shelf.new) }
+    ensures files { H.files shelf.new ≡ H.files shelf.old }
+    ensures later { H.faults shelf.old ≤ H.faults shelf.new }
+{
+    loop {
+        match lines.next(shelf) {
+            Ok(Line::Whole) => {
+                let _ = checker.feed(lines.bytes());
+            }
+            Ok(Line::Long) => {
+                let _ = checker.feed_long();
+            }
+            Ok(Line::Rest { long }) => return Ok(rest_of(lines.bytes(), long)),
+            Ok(Line::Over) => return Err(CheckError::TooLong { max: MOST_BYTES }),
+            Err(_) => return Err(CheckError::Failed),
+        }
+    }
+}
+
+// Whatever certificate of a season is accepted, its claims hold.
+fn accepted_hold(season: &Season)
+    ensures { (bytes : List ℕ) → Accepts season.now bytes → ClaimsHold season.now bytes (cert_claims season.now bytes) }
+{
+    let _ = season.stores();
+    accepted_claims_hold();
+}
+
 /// Reads the certificate of a name line by line, and checks it: what it claims, where it is accepted, and this holds then.
 ///
 /// It takes all its memory before it opens the file. After a fault of the certificate it still reads to the end, so a fault of
@@ -46,7 +112,7 @@ pub enum CheckError {
 /// `Memory`, and the shelf is as it was; `Failed` where the shelf failed; `Absent` where the shelf holds no such file; `TooLong`
 /// where more than the limit was taken; and `No`, the first fault of the certificate.
 pub fn check_file<H: Shelf>(
-    _alloc: Global,
+    alloc: Global,
     season: &Season,
     shelf: &mut H,
     name: &str,
@@ -70,5 +136,24 @@ pub fn check_file<H: Shelf>(
     ensures files { H.files shelf.new ≡ H.files shelf.old }
     ensures later { H.faults shelf.old ≤ H.faults shelf.new }
 {
-    Err(CheckError::Memory)
+    let mut lines = match Lines::new(alloc, MOST_LINE, MOST_BYTES) {
+        Ok(lines) => lines,
+        Err(_) => return Err(CheckError::Memory),
+    };
+    let mut checker = match Checker::open(alloc, season) {
+        Ok(checker) => checker,
+        Err(_) => return Err(CheckError::Memory),
+    };
+    match shelf.open(name) {
+        Ok(true) => {}
+        Ok(false) => return Err(CheckError::Absent),
+        Err(_) => return Err(CheckError::Failed),
+    }
+    let rest = feed_all(&mut checker, &mut lines, shelf)?;
+    accepted_hold(season);
+    accepted_or_refused();
+    match checker.finish(rest) {
+        Ok(claims) => Ok(claims),
+        Err(no) => Err(CheckError::No(no)),
+    }
 }

@@ -1,12 +1,27 @@
-//! What an accepted certificate proves, whoever wrote it.
+//! The checker of certificates: what it accepts, and what an accepted certificate proves.
 //!
-//! The laws speak of the certificate's text alone. The path, the multipliers and the tables are those that its lines tell.
+//! Stores, weeks and rungs are counted from 1, the weeks done and the stocks from 0. Values are in units, of which a cent
+//! has 10^6.
 #![tactic(auto)]
 
+mod checker;
 mod claims;
+mod conditions;
+mod faults;
+mod fields;
 mod file;
+mod heads;
+mod joint;
+mod keeping;
 mod laws;
+mod number_rows;
+mod reading;
+mod tables;
+mod taking;
+mod values;
+mod week;
 
+pub use checker::Checker;
 pub use claims::Claims;
 pub use file::{CheckError, check_file};
 pub use laws::{accepted_claims_hold, accepted_or_refused};

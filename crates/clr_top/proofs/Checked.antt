@@ -1,6 +1,6 @@
 -- How the job `check` ends, and what it reports.
 use Rattle.std.proofs.Common.{◌≡◌, ◌<◌, ◌≤◌, ◌↔◌, ℕ, Bool, true, false, ◌&&◌, ◌==◌, List, length, arith, refl, sym, ap, ◌∙◌, subst, inl, inr}
-use Rattle.std.specs.Prelude.{IfSome, IsErrOf, IsSomeAnd, Option, Some, None, Result, Ok, Err, IsTrue}
+use Rattle.std.specs.Prelude.{IfOk, IfSome, IsErrOf, IsSomeAnd, Option, Some, None, Result, Ok, Err, IsTrue}
 use Rattle.std.proofs.lemmas.Bool.{and_parts, cases_lt, eqb-true, le-leb, lt-leb}
 use Rattle.clr_io.specs.Causes.{Rose}
 use Rattle.clr_io.specs.Files.{Files, held}
@@ -109,6 +109,18 @@ error_ends files season ask taken faults_old faults_new (c.No refusal) says = no
 error_ends files season ask taken faults_old faults_new c.Memory says = tt
 
 -- ---- by a report
+
+-- what holds anyway holds where there is a value
+pub if_ok : {T E : Type 0} (result : Result T E) (P : Type 0) → P → IfOk result (λ _. P)
+if_ok (Ok value) P holds = holds
+if_ok (Err error) P holds = tt
+
+-- no more than the limit was taken of an accepted certificate
+pub few_accepted : (taken : ℕ) (claims : Claims) → IsErrOf {T = Claims} {E = CheckError} (Ok claims) (c.TooLong 268435456) ↔ ((268435456 < taken) × ¬ IsErrOf {T = Claims} {E = CheckError} (Ok claims) c.Memory) → taken ≤ most_cert
+few_accepted taken claims too_long = elim (cases_lt most_cert taken) [
+    inl over ↦ let e : ◌≡◌ {A = Result Claims CheckError} (Ok claims) (Err (c.TooLong 268435456)) = too_long.1 (over, λ is. cc is) in cc e
+  | inr within ↦ within
+  ]
 
 -- an accepted certificate is reported
 pub accepted_passes : (files : Option Files) (season : Season) (ask : Ask) (taken : ℕ) (bytes : List ℕ) → AcceptedOrRefused → taken ≤ most_cert → IfSome files (λ all. IsSomeAnd (held (cert_path ask) all) (λ b. taken ≡ length b)) →
