@@ -18,7 +18,6 @@ use Rattle.clr_check.specs.declared.file.CheckError.TheVariants as c
 use Rattle.clr_report.specs.CheckText.{check_text}
 use Rattle.clr_report.specs.declared.note.Doc.TheVariants.{Certificate}
 use Rattle.clr_report.specs.declared.note.Cause.TheVariants.{Absent, TooLong, CertificateNo}
-use Rattle.clr_top.specs.declared.ending.Ending.TheVariants.{By}
 use Rattle.clr_top.specs.Checking.{CheckReports, cert_path, check_ends, ending_unaccepted, ends_of_cert, most_cert}
 use Rattle.clr_top.specs.FileEnds.{EndsBy}
 
@@ -34,14 +33,14 @@ path_obeys rules path is =
 
 -- ---- by the file
 
-cert_absent : (season : Season) (given : Option (List ℕ)) → given ≡ None → ends_of_cert season given ≡ Some (By (Absent Certificate))
+cert_absent : (season : Season) (given : Option (List ℕ)) → given ≡ None → ends_of_cert season given ≡ Some (Absent Certificate)
 cert_absent season given is = rw is refl
 
-cert_long : (season : Season) (given : Option (List ℕ)) → IsSomeAnd given (λ bytes. most_cert < length bytes) → ends_of_cert season given ≡ Some (By (TooLong Certificate most_cert))
+cert_long : (season : Season) (given : Option (List ℕ)) → IsSomeAnd given (λ bytes. most_cert < length bytes) → ends_of_cert season given ≡ Some (TooLong Certificate most_cert)
 cert_long season None h = absurd h
 cert_long season (Some bytes) h = rw (lt-leb (length bytes) most_cert h) refl
 
-cert_no : (season : Season) (taken : ℕ) (refusal : No) (given : Option (List ℕ)) → taken ≤ most_cert → IsSomeAnd given (λ bytes. taken ≡ length bytes) → IsSomeAnd given (λ bytes. first_no season bytes ≡ Some refusal) → ends_of_cert season given ≡ Some (By (CertificateNo refusal))
+cert_no : (season : Season) (taken : ℕ) (refusal : No) (given : Option (List ℕ)) → taken ≤ most_cert → IsSomeAnd given (λ bytes. taken ≡ length bytes) → IsSomeAnd given (λ bytes. first_no season bytes ≡ Some refusal) → ends_of_cert season given ≡ Some (CertificateNo refusal)
 cert_no season taken refusal None few read first = absurd read
 cert_no season taken refusal (Some bytes) few read first = let short : length bytes ≤ most_cert = omega arith in rw (le-leb (length bytes) most_cert short, first) refl
 
@@ -66,19 +65,19 @@ with_held P Q None f h = absurd h
 with_held P Q (Some bytes) f h = f bytes h
 
 absent_said : (files : Option Files) (season : Season) (ask : Ask) (taken faults_old faults_new : ℕ) → Says files season (cert_path ask) taken faults_old faults_new c.Absent →
-    IfSome files (λ all. check_ends season ask all ≡ Some (By (Absent Certificate)))
+    IfSome files (λ all. check_ends season ask all ≡ Some (Absent Certificate))
 unfolding check_ends
 absent_said None season ask taken faults_old faults_new says = tt
 absent_said (Some files) season ask taken faults_old faults_new says = cert_absent season (held (cert_path ask) files) (says.absent.0 refl).0
 
-long_said : (files : Option Files) (season : Season) (ask : Ask) → IfSome files (λ all. IsSomeAnd (held (cert_path ask) all) (λ bytes. 268435456 < length bytes)) → IfSome files (λ all. check_ends season ask all ≡ Some (By (TooLong Certificate 268435456)))
+long_said : (files : Option Files) (season : Season) (ask : Ask) → IfSome files (λ all. IsSomeAnd (held (cert_path ask) all) (λ bytes. 268435456 < length bytes)) → IfSome files (λ all. check_ends season ask all ≡ Some (TooLong Certificate 268435456))
 unfolding check_ends
 long_said None season ask longer = tt
 long_said (Some files) season ask longer = cert_long season (held (cert_path ask) files) longer
 
 no_said : (files : Option Files) (season : Season) (ask : Ask) (taken : ℕ) (refusal : No) → taken ≤ most_cert → IfSome files (λ all. IsSomeAnd (held (cert_path ask) all) (λ bytes. taken ≡ length bytes)) →
     IfSome files (λ all. IsSomeAnd (held (cert_path ask) all) (λ bytes. (other : No) → IsErrOf {T = Claims} {E = CheckError} (Err (c.No refusal)) (c.No other) ↔ (first_no season bytes ≡ Some other))) →
-    IfSome files (λ all. check_ends season ask all ≡ Some (By (CertificateNo refusal)))
+    IfSome files (λ all. check_ends season ask all ≡ Some (CertificateNo refusal))
 unfolding check_ends
 no_said None season ask taken refusal few read refused = tt
 no_said (Some files) season ask taken refusal few read refused =
@@ -103,7 +102,7 @@ error_ends files season ask taken faults_old faults_new (c.TooLong max) says =
   where
     long_ends : (fs : Option Files) (s : Season) (a : Ask) (t : ℕ) → IsErrOf {T = Claims} {E = CheckError} (Err (c.TooLong 268435456)) (c.TooLong 268435456) ↔ ((268435456 < t) × ¬ IsErrOf {T = Claims} {E = CheckError} (Err (c.TooLong 268435456)) c.Memory) →
         IfSome fs (λ all. IsSomeAnd (held (cert_path a) all) (λ bytes. 268435456 < length bytes)) →
-        (268435456 < t) × IfSome fs (λ all. check_ends s a all ≡ Some (By (TooLong Certificate 268435456)))
+        (268435456 < t) × IfSome fs (λ all. check_ends s a all ≡ Some (TooLong Certificate 268435456))
     long_ends fs s a t too_long longer = ((too_long.0 refl).0, long_said fs s a longer)
 error_ends files season ask taken faults_old faults_new (c.No refusal) says = no_said files season ask taken refusal (few_taken taken refusal says.too_long) (says.read tt) (says.refused tt)
 error_ends files season ask taken faults_old faults_new c.Memory says = tt
@@ -118,9 +117,9 @@ if_ok (Err error) P holds = tt
 -- no more than the limit was taken of an accepted certificate
 pub few_accepted : (taken : ℕ) (claims : Claims) → IsErrOf {T = Claims} {E = CheckError} (Ok claims) (c.TooLong 268435456) ↔ ((268435456 < taken) × ¬ IsErrOf {T = Claims} {E = CheckError} (Ok claims) c.Memory) → taken ≤ most_cert
 few_accepted taken claims too_long = elim (cases_lt most_cert taken) [
-    inl over ↦ let e : ◌≡◌ {A = Result Claims CheckError} (Ok claims) (Err (c.TooLong 268435456)) = too_long.1 (over, λ is. cc is) in cc e
+  | inl over ↦ let e : ◌≡◌ {A = Result Claims CheckError} (Ok claims) (Err (c.TooLong 268435456)) = too_long.1 (over, λ is. cc is) in cc e
   | inr within ↦ within
-  ]
+]
 
 -- an accepted certificate is reported
 pub accepted_passes : (files : Option Files) (season : Season) (ask : Ask) (taken : ℕ) (bytes : List ℕ) → AcceptedOrRefused → taken ≤ most_cert → IfSome files (λ all. IsSomeAnd (held (cert_path ask) all) (λ b. taken ≡ length b)) →

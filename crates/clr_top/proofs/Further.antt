@@ -10,8 +10,7 @@ use Rattle.clr_season.specs.Reads.{season_in}
 use Rattle.clr_season.specs.Season.{IsSeason, Season}
 use Rattle.clr_report.specs.declared.note.Cause.TheVariants.{Words, Refused, NoPath, ReadFault, Absent, WriteFault, TooLong, Cells, Size, Base, CertificateNo, PolicyJson, PolicyShape, PolicyUnknown, PolicyRule, Memory}
 use Rattle.clr_report.specs.declared.note.Doc.{Doc}
-use Rattle.clr_top.specs.declared.ending.Ending.{Ending}
-use Rattle.clr_top.specs.declared.ending.Ending.TheVariants.{By}
+use Rattle.clr_report.specs.declared.note.Cause.{Cause}
 use Rattle.clr_top.specs.Checking.{CheckReports, check_ends}
 use Rattle.clr_top.specs.FileEnds.{EndsBy}
 use Rattle.clr_top.specs.Judging.{JudgeReports, judge_ends}
@@ -23,15 +22,15 @@ pub rose_later : (before mid now : ℕ) → before ≤ mid → Rose mid now → 
 rose_later before mid now first rose = omega (arith, first, rose)
 
 -- how the job ends behind its season
-abbrev pub EndsBehind : Job → (Season → Ask → Files → Option Ending) → Type 0
+abbrev pub EndsBehind : Job → (Season → Ask → Files → Option Cause) → Type 0
 EndsBehind job ends = (held : Files) (ask : Ask) (season : Season) → ask.job ≡ job → season_in held ask.folder ≡ Ok season → ends_by held ask ≡ ends season ask held
 
-module _ (job : Job) (ends : Season → Ask → Files → Option Ending) (behind : EndsBehind job ends) (files : Option Files) (ask : Ask) (season : Season) (of : ask.job ≡ job) (is : IfSome files (λ held. season_in held ask.folder ≡ Ok season)) (facts : IsSeason season) where
-  said : (told : Option Files) (ending : Ending) → IfSome told (λ held. season_in held ask.folder ≡ Ok season) → IfSome told (λ held. ends season ask held ≡ Some ending) → IfSome told (λ held. ends_by held ask ≡ Some ending)
+module _ (job : Job) (ends : Season → Ask → Files → Option Cause) (behind : EndsBehind job ends) (files : Option Files) (ask : Ask) (season : Season) (of : ask.job ≡ job) (is : IfSome files (λ held. season_in held ask.folder ≡ Ok season)) (facts : IsSeason season) where
+  said : (told : Option Files) (ending : Cause) → IfSome told (λ held. season_in held ask.folder ≡ Ok season) → IfSome told (λ held. ends season ask held ≡ Some ending) → IfSome told (λ held. ends_by held ask ≡ Some ending)
   said None ending reads given = tt
   said (Some held) ending reads given = behind held ask season of reads ∙ given
 
-  says : (ending : Ending) → job ≢ j.Make → IfSome files (λ held. ends season ask held ≡ Some ending) → ByFiles files ask ending
+  says : (ending : Cause) → job ≢ j.Make → IfSome files (λ held. ends season ask held ≡ Some ending) → ByFiles files ask ending
   says ending reads given = ((λ make. reads (sym of ∙ make)), said files ending is given)
 
   passes-so : (told : Option Files) → IfSome told (λ held. season_in held ask.folder ≡ Ok season) → IfSome told (λ held. ends season ask held ≡ None) → IfSome told (λ held. ends_by held ask ≡ None)
@@ -43,24 +42,24 @@ module _ (job : Job) (ends : Season → Ask → Files → Option Ending) (behind
   further-passes given = passes-so files is given
 
   -- it ends by the further file
-  pub further-ends : (doc : Doc) (taken before mid now : ℕ) (ending : Ending) → job ≢ j.Make → further_doc job ≡ Some doc → before ≤ mid → EndsBy files (ends season ask) doc taken mid now ending → ReadEnds files ask taken (Rose before now) ending
-  further-ends doc taken before mid now (By Words) reads named first given = given
-  further-ends doc taken before mid now (By (Refused named_doc row column why)) reads named first given = absurd given
-  further-ends doc taken before mid now (By NoPath) reads named first given = absurd given
-  further-ends doc taken before mid now (By (ReadFault failed)) reads named first (same, rose) =
+  pub further-ends : (doc : Doc) (taken before mid now : ℕ) (ending : Cause) → job ≢ j.Make → further_doc job ≡ Some doc → before ≤ mid → EndsBy files (ends season ask) doc taken mid now ending → ReadEnds files ask taken (Rose before now) ending
+  further-ends doc taken before mid now Words reads named first given = given
+  further-ends doc taken before mid now (Refused named_doc row column why) reads named first given = absurd given
+  further-ends doc taken before mid now NoPath reads named first given = absurd given
+  further-ends doc taken before mid now (ReadFault failed) reads named first (same, rose) =
       (rose_later before mid now first rose, ((λ make. reads (sym of ∙ make)), inr (subst (λ job. further_doc job ≡ Some failed) (sym of) (subst (λ d. further_doc job ≡ Some d) (sym same) named), (season, is, facts, tt))))
-  further-ends doc taken before mid now (By (Absent lacking)) reads named first given = says (By (Absent lacking)) reads given
-  further-ends doc taken before mid now (By (WriteFault failed)) reads named first given = given
-  further-ends doc taken before mid now (By (TooLong long max)) reads named first given = (given.0, says (By (TooLong long max)) reads given.1)
-  further-ends doc taken before mid now (By (Cells found)) reads named first given = absurd given
-  further-ends doc taken before mid now (By (Size found)) reads named first given = says (By (Size found)) reads given
-  further-ends doc taken before mid now (By Base) reads named first given = says (By Base) reads given
-  further-ends doc taken before mid now (By (CertificateNo reason)) reads named first given = says (By (CertificateNo reason)) reads given
-  further-ends doc taken before mid now (By PolicyJson) reads named first given = says (By PolicyJson) reads given
-  further-ends doc taken before mid now (By (PolicyShape branch)) reads named first given = says (By (PolicyShape branch)) reads given
-  further-ends doc taken before mid now (By (PolicyUnknown branch)) reads named first given = says (By (PolicyUnknown branch)) reads given
-  further-ends doc taken before mid now (By (PolicyRule branch rule)) reads named first given = says (By (PolicyRule branch rule)) reads given
-  further-ends doc taken before mid now (By Memory) reads named first given = tt
+  further-ends doc taken before mid now (Absent lacking) reads named first given = says (Absent lacking) reads given
+  further-ends doc taken before mid now (WriteFault failed) reads named first given = given
+  further-ends doc taken before mid now (TooLong long max) reads named first given = (given.0, says (TooLong long max) reads given.1)
+  further-ends doc taken before mid now (Cells found) reads named first given = absurd given
+  further-ends doc taken before mid now (Size found) reads named first given = says (Size found) reads given
+  further-ends doc taken before mid now Base reads named first given = says Base reads given
+  further-ends doc taken before mid now (CertificateNo reason) reads named first given = says (CertificateNo reason) reads given
+  further-ends doc taken before mid now PolicyJson reads named first given = says PolicyJson reads given
+  further-ends doc taken before mid now (PolicyShape branch) reads named first given = says (PolicyShape branch) reads given
+  further-ends doc taken before mid now (PolicyUnknown branch) reads named first given = says (PolicyUnknown branch) reads given
+  further-ends doc taken before mid now (PolicyRule branch rule) reads named first given = says (PolicyRule branch rule) reads given
+  further-ends doc taken before mid now Memory reads named first given = tt
 
 -- ---- judge
 

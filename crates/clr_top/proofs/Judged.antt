@@ -11,8 +11,7 @@ use Rattle.clr_policy.specs.PolicyFile.{Fault, no_json, no_shape, no_store, poli
 use Rattle.clr_policy.specs.Written.{Written}
 use Rattle.clr_report.specs.declared.note.Doc.TheVariants as d
 use Rattle.clr_report.specs.declared.note.Cause.TheVariants.{Size, Base, PolicyJson, PolicyShape, PolicyUnknown, PolicyRule, Memory}
-use Rattle.clr_top.specs.declared.ending.Ending.{Ending}
-use Rattle.clr_top.specs.declared.ending.Ending.TheVariants.{By}
+use Rattle.clr_report.specs.declared.note.Cause.{Cause}
 use Rattle.clr_top.specs.FileEnds.{EndsBy}
 use Rattle.clr_top.specs.Judging.{ends_of_bytes, ends_of_judgement, ends_of_reading, judge_ends, policy_path}
 
@@ -23,7 +22,7 @@ unfolding judge_ends
 held_ends None season ask bytes is short = tt
 held_ends (Some all) season ask bytes is short = let fits : nat_le (length bytes) most_bytes ≡ true = search rules in rw (is, fits) refl
 
-ended : (files : Option Files) (ends : Files → Option Ending) (a b : Option Ending) → IfSome files (λ all. ends all ≡ a) → a ≡ b → IfSome files (λ all. ends all ≡ b)
+ended : (files : Option Files) (ends : Files → Option Cause) (a b : Option Cause) → IfSome files (λ all. ends all ≡ a) → a ≡ b → IfSome files (λ all. ends all ≡ b)
 ended None ends a b is same = tt
 ended (Some all) ends a b is same = is ∙ same
 
@@ -37,20 +36,20 @@ if_it_reports (Ok x) P Q next h = next h
 if_it_reports (Err e) P Q next h = tt
 
 -- it ends by what stands against the policy, or by the fault of its file
-module _ (files : Option Files) (ends : Files → Option Ending) (taken old new : ℕ) where
-  by_judgement : (given : Result ℤ Objection) (ending : Ending) → IfSome files (λ all. ends all ≡ ends_of_judgement given) → ends_of_judgement given ≡ Some ending → EndsBy files ends d.Policy taken old new ending
+module _ (files : Option Files) (ends : Files → Option Cause) (taken old new : ℕ) where
+  by_judgement : (given : Result ℤ Objection) (ending : Cause) → IfSome files (λ all. ends all ≡ ends_of_judgement given) → ends_of_judgement given ≡ Some ending → EndsBy files ends d.Policy taken old new ending
   by_judgement (Ok value) ending is e = cc
-  by_judgement (Err (breaks_rule breach)) ending is e = let same : By (PolicyRule breach.branch breach.rule) ≡ ending = cc in subst (EndsBy files ends d.Policy taken old new) same is
-  by_judgement (Err no_base) ending is e = let same : By Base ≡ ending = cc in subst (EndsBy files ends d.Policy taken old new) same is
-  by_judgement (Err (too_large found)) ending is e = let same : By (Size found) ≡ ending = cc in subst (EndsBy files ends d.Policy taken old new) same is
+  by_judgement (Err (breaks_rule breach)) ending is e = let same : (PolicyRule breach.branch breach.rule) ≡ ending = cc in subst (EndsBy files ends d.Policy taken old new) same is
+  by_judgement (Err no_base) ending is e = let same : Base ≡ ending = cc in subst (EndsBy files ends d.Policy taken old new) same is
+  by_judgement (Err (too_large found)) ending is e = let same : (Size found) ≡ ending = cc in subst (EndsBy files ends d.Policy taken old new) same is
 
-  by_reading : (season : Season) (given : Result Written Fault) (ending : Ending) → IfSome files (λ all. ends all ≡ ends_of_reading season given) → ends_of_reading season given ≡ Some ending → EndsBy files ends d.Policy taken old new ending
+  by_reading : (season : Season) (given : Result Written Fault) (ending : Cause) → IfSome files (λ all. ends all ≡ ends_of_reading season given) → ends_of_reading season given ≡ Some ending → EndsBy files ends d.Policy taken old new ending
   by_reading season (Ok policy) ending is e = by_judgement (judgement floor season policy) ending is e
-  by_reading season (Err no_json) ending is e = let same : By PolicyJson ≡ ending = cc in subst (EndsBy files ends d.Policy taken old new) same is
-  by_reading season (Err (no_shape branch)) ending is e = let same : By (PolicyShape branch) ≡ ending = cc in subst (EndsBy files ends d.Policy taken old new) same is
-  by_reading season (Err (no_store branch)) ending is e = let same : By (PolicyUnknown branch) ≡ ending = cc in subst (EndsBy files ends d.Policy taken old new) same is
+  by_reading season (Err no_json) ending is e = let same : PolicyJson ≡ ending = cc in subst (EndsBy files ends d.Policy taken old new) same is
+  by_reading season (Err (no_shape branch)) ending is e = let same : (PolicyShape branch) ≡ ending = cc in subst (EndsBy files ends d.Policy taken old new) same is
+  by_reading season (Err (no_store branch)) ending is e = let same : (PolicyUnknown branch) ≡ ending = cc in subst (EndsBy files ends d.Policy taken old new) same is
 
-pub held_fails : (files : Option Files) (season : Season) (ask : Ask) (bytes : List ℕ) (taken old new : ℕ) (ending : Ending) → IfSome files (λ all. held (policy_path ask.folder) all ≡ Some bytes) → length bytes ≤ most_bytes →
-    (ending ≡ By Memory) ⊎ (ends_of_bytes season bytes ≡ Some ending) → EndsBy files (judge_ends season ask) d.Policy taken old new ending
+pub held_fails : (files : Option Files) (season : Season) (ask : Ask) (bytes : List ℕ) (taken old new : ℕ) (ending : Cause) → IfSome files (λ all. held (policy_path ask.folder) all ≡ Some bytes) → length bytes ≤ most_bytes →
+    (ending ≡ Memory) ⊎ (ends_of_bytes season bytes ≡ Some ending) → EndsBy files (judge_ends season ask) d.Policy taken old new ending
 held_fails files season ask bytes taken old new ending is short (inl memory) = rw memory tt
 held_fails files season ask bytes taken old new ending is short (inr says) = by_reading files (judge_ends season ask) taken old new season (policy_of season bytes) ending (held_ends files season ask bytes is short) says

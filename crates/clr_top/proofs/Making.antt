@@ -21,8 +21,7 @@ use Rattle.clr_report.specs.declared.note.Doc.TheVariants as d
 use Rattle.clr_top.specs.Making.{MakeGives, made_docs}
 use Rattle.clr_top.specs.Outputs.{Outputs}
 use Rattle.clr_top.specs.Runs.{Gives, GivesBy, ends_by}
-use Rattle.clr_top.specs.declared.ending.Ending.{Ending}
-use Rattle.clr_top.specs.declared.ending.Ending.TheVariants.{By}
+use Rattle.clr_report.specs.declared.note.Cause.{Cause}
 
 -- what was read of a shelf, where these are its files
 pub of-files : (told : Option Files) (files : Files) (folder : List ℕ) (result : Result Season SeasonError) → told ≡ Some files → IfSome told (λ held. SeasonGives {X = Season} {Y = Season} (λ s. s) result (season_in held folder)) →
@@ -53,7 +52,7 @@ only-faults files folder (Cells found) made gives = nothing-stands files folder 
 only-faults files folder Memory made gives = inl refl
 
 -- where some path obeys, a plan ends for want of memory alone
-pub only-memory : (rules : Rulebook) (ending : Ending) → SomePathObeys rules → (ending ≡ By note.Memory) ⊎ ((ending ≡ By note.NoPath) × NoPathObeys rules) → ending ≡ By note.Memory
+pub only-memory : (rules : Rulebook) (ending : Cause) → SomePathObeys rules → (ending ≡ note.Memory) ⊎ ((ending ≡ note.NoPath) × NoPathObeys rules) → ending ≡ note.Memory
 only-memory rules ending some (inl memory) = memory
 only-memory rules ending some (inr (no_path, none)) = let (path, keeps) = (some_or_none_obeys_lem rules).some.0 some in absurd (none path keeps)
 

@@ -8,8 +8,7 @@ use Rattle.clr_words.specs.declared.asked.Job.TheVariants as j
 use Rattle.clr_report.specs.declared.note.Cause.TheVariants.{Memory, WriteFault}
 use Rattle.clr_report.specs.declared.note.Doc.{Doc}
 use Rattle.clr_report.specs.declared.note.Doc.TheVariants as d
-use Rattle.clr_top.specs.declared.ending.Ending.{Ending}
-use Rattle.clr_top.specs.declared.ending.Ending.TheVariants.{By}
+use Rattle.clr_report.specs.declared.note.Cause.{Cause}
 use Rattle.clr_top.specs.Outputs.{Fails, LeavesFiles, Outputs, with_files}
 use Rattle.clr_top.specs.Plans.{cert_files, no_name}
 use Rattle.clr_top.specs.Runs.{Caused, Writes, docs_asked, docs_by, ending_asked}
@@ -69,13 +68,13 @@ written files words ready Holds (ask, outputs, asked, gives, is) holds = (ask, o
 
 -- why outputs that stand ready are not written
 pub writing-caused :
-    (files : Option Files) (words : List (List ℕ)) (taken : ℕ) (ShelfRose DeskRose OutRose : Type 0) (docs : List Doc) (ending : Ending) → docs ≡ docs_asked words → IfSome files (λ held. ending_asked held words ≡ None) →
-    (ending ≡ By Memory) ⊎ ((doc : Doc) × (ending ≡ By (WriteFault doc))) → ((doc : Doc) → ending ≡ By (WriteFault doc) → Fails docs DeskRose OutRose doc) → Caused files words taken ShelfRose DeskRose OutRose ending
+    (files : Option Files) (words : List (List ℕ)) (taken : ℕ) (ShelfRose DeskRose OutRose : Type 0) (docs : List Doc) (ending : Cause) → docs ≡ docs_asked words → IfSome files (λ held. ending_asked held words ≡ None) →
+    (ending ≡ Memory) ⊎ ((doc : Doc) × (ending ≡ WriteFault doc)) → ((doc : Doc) → ending ≡ WriteFault doc → Fails docs DeskRose OutRose doc) → Caused files words taken ShelfRose DeskRose OutRose ending
 writing-caused files words taken ShelfRose DeskRose OutRose docs ending same passes (inl memory) failed = inl (inl memory)
 writing-caused files words taken ShelfRose DeskRose OutRose docs ending same passes (inr (doc, by)) failed = inr (doc, by, subst (λ named. Fails named DeskRose OutRose doc) same (failed doc by), passes)
 
 -- and where no output failed, what holds after want of memory
-pub writing-memory : (ending : Ending) (Holds : Type 0) → (ending ≡ By Memory) ⊎ ((doc : Doc) × (ending ≡ By (WriteFault doc))) → ((doc : Doc) → ending ≡ By (WriteFault doc) → ⊥) → (ending ≡ By Memory → Holds) → Holds
+pub writing-memory : (ending : Cause) (Holds : Type 0) → (ending ≡ Memory) ⊎ ((doc : Doc) × (ending ≡ WriteFault doc)) → ((doc : Doc) → ending ≡ WriteFault doc → ⊥) → (ending ≡ Memory → Holds) → Holds
 writing-memory ending Holds (inl memory) unfailed holds = holds memory
 writing-memory ending Holds (inr (doc, by)) unfailed holds = absurd (unfailed doc by)
 

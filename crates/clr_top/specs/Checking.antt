@@ -12,8 +12,7 @@ use Rattle.clr_check.specs.declared.file.CheckError.TheVariants as c
 use Rattle.clr_report.specs.CheckText.{check_text}
 use Rattle.clr_report.specs.declared.note.Doc.TheVariants.{Certificate}
 use Rattle.clr_report.specs.declared.note.Cause.TheVariants.{ReadFault, Absent, TooLong, CertificateNo, Memory}
-use Rattle.clr_top.specs.declared.ending.Ending.{Ending}
-use Rattle.clr_top.specs.declared.ending.Ending.TheVariants.{By}
+use Rattle.clr_report.specs.declared.note.Cause.{Cause}
 
 -- ---- how it ends
 
@@ -26,26 +25,26 @@ abbrev pub cert_path : Ask → List ℕ
 cert_path ask = if bytes_eq ask.cert (codes "-") then ask.folder ++ 47 ∷ codes "certificate.csv" else ask.cert
 
 -- by the first fault of its bytes
-abbrev pub ends_of_fault : Option No → Option Ending
+abbrev pub ends_of_fault : Option No → Option Cause
 ends_of_fault None = None
-ends_of_fault (Some refusal) = Some (By (CertificateNo refusal))
+ends_of_fault (Some refusal) = Some (CertificateNo refusal)
 
 -- by a file: that it isn't held, that it is too long, and then its first fault
-abbrev pub ends_of_cert : Season → Option (List ℕ) → Option Ending
-ends_of_cert season None = Some (By (Absent Certificate))
-ends_of_cert season (Some bytes) = if nat_le (length bytes) most_cert then ends_of_fault (first_no season bytes) else Some (By (TooLong Certificate most_cert))
+abbrev pub ends_of_cert : Season → Option (List ℕ) → Option Cause
+ends_of_cert season None = Some (Absent Certificate)
+ends_of_cert season (Some bytes) = if nat_le (length bytes) most_cert then ends_of_fault (first_no season bytes) else Some (TooLong Certificate most_cert)
 
 -- How the job ends by the certificate that is asked, where the folder read to this season. Nothing where it reports.
-unfoldable pub check_ends : Season → Ask → Files → Option Ending
+unfoldable pub check_ends : Season → Ask → Files → Option Cause
 check_ends season ask files = ends_of_cert season (held (cert_path ask) files)
 
 -- by an error of the checking
-abbrev pub ending_unaccepted : CheckError → Ending
-ending_unaccepted c.Failed = By (ReadFault Certificate)
-ending_unaccepted c.Absent = By (Absent Certificate)
-ending_unaccepted (c.TooLong max) = By (TooLong Certificate max)
-ending_unaccepted (c.No refusal) = By (CertificateNo refusal)
-ending_unaccepted c.Memory = By Memory
+abbrev pub ending_unaccepted : CheckError → Cause
+ending_unaccepted c.Failed = ReadFault Certificate
+ending_unaccepted c.Absent = Absent Certificate
+ending_unaccepted (c.TooLong max) = TooLong Certificate max
+ending_unaccepted (c.No refusal) = CertificateNo refusal
+ending_unaccepted c.Memory = Memory
 
 -- ---- what it reports
 

@@ -16,8 +16,7 @@ use Rattle.clr_policy.specs.declared.policy.PolicyError.TheVariants as p
 use Rattle.clr_report.specs.JudgeText.{judge_text}
 use Rattle.clr_report.specs.declared.note.Doc.TheVariants.{Policy}
 use Rattle.clr_report.specs.declared.note.Cause.TheVariants.{Absent, TooLong, Size, Base, PolicyJson, PolicyShape, PolicyUnknown, PolicyRule, Memory}
-use Rattle.clr_top.specs.declared.ending.Ending.{Ending}
-use Rattle.clr_top.specs.declared.ending.Ending.TheVariants.{By}
+use Rattle.clr_report.specs.declared.note.Cause.{Cause}
 
 -- ---- how it ends
 
@@ -26,53 +25,53 @@ abbrev pub policy_path : List ℕ → List ℕ
 policy_path folder = folder ++ 47 ∷ codes "policy.json"
 
 -- by a fault of the policy file
-abbrev pub ending_of_fault : Fault → Ending
-ending_of_fault no_json = By PolicyJson
-ending_of_fault (no_shape branch) = By (PolicyShape branch)
-ending_of_fault (no_store branch) = By (PolicyUnknown branch)
+abbrev pub ending_of_fault : Fault → Cause
+ending_of_fault no_json = PolicyJson
+ending_of_fault (no_shape branch) = PolicyShape branch
+ending_of_fault (no_store branch) = PolicyUnknown branch
 
 -- by what stands against a policy
-abbrev pub ending_of_objection : Objection → Ending
-ending_of_objection (breaks_rule breach) = By (PolicyRule breach.branch breach.rule)
-ending_of_objection no_base = By Base
-ending_of_objection (too_large found) = By (Size found)
+abbrev pub ending_of_objection : Objection → Cause
+ending_of_objection (breaks_rule breach) = PolicyRule breach.branch breach.rule
+ending_of_objection no_base = Base
+ending_of_objection (too_large found) = Size found
 
 -- by a judgement, unless it is a value
-abbrev pub ends_of_judgement : Result ℤ Objection → Option Ending
+abbrev pub ends_of_judgement : Result ℤ Objection → Option Cause
 ends_of_judgement (Ok value) = None
 ends_of_judgement (Err objection) = Some (ending_of_objection objection)
 
 -- by what the policy file is read as: its first fault, or what stands against the policy
-abbrev pub ends_of_reading : Season → Result Written Fault → Option Ending
+abbrev pub ends_of_reading : Season → Result Written Fault → Option Cause
 ends_of_reading season (Ok policy) = ends_of_judgement (judgement floor season policy)
 ends_of_reading season (Err fault) = Some (ending_of_fault fault)
 
 -- by its bytes
-abbrev pub ends_of_bytes : Season → List ℕ → Option Ending
+abbrev pub ends_of_bytes : Season → List ℕ → Option Cause
 ends_of_bytes season bytes = ends_of_reading season (policy_of season bytes)
 
 -- by a file: that it isn't held, that it is too long, and then its bytes
-abbrev pub ends_of_file : (List ℕ → Option Ending) → Option (List ℕ) → Option Ending
-ends_of_file by_bytes None = Some (By (Absent Policy))
-ends_of_file by_bytes (Some bytes) = if nat_le (length bytes) most_bytes then by_bytes bytes else Some (By (TooLong Policy most_bytes))
+abbrev pub ends_of_file : (List ℕ → Option Cause) → Option (List ℕ) → Option Cause
+ends_of_file by_bytes None = Some (Absent Policy)
+ends_of_file by_bytes (Some bytes) = if nat_le (length bytes) most_bytes then by_bytes bytes else Some (TooLong Policy most_bytes)
 
 -- How the job ends by the policy file of the folder that is asked, where the folder read to this season. Nothing where it reports.
-unfoldable pub judge_ends : Season → Ask → Files → Option Ending
+unfoldable pub judge_ends : Season → Ask → Files → Option Cause
 judge_ends season ask files = ends_of_file (ends_of_bytes season) (held (policy_path ask.folder) files)
 
 -- by an error of the reading
-abbrev pub ending_unread : PolicyError → Ending
-ending_unread p.Json = By PolicyJson
-ending_unread (p.Shape branch) = By (PolicyShape branch)
-ending_unread (p.Unknown branch) = By (PolicyUnknown branch)
-ending_unread p.Memory = By Memory
+abbrev pub ending_unread : PolicyError → Cause
+ending_unread p.Json = PolicyJson
+ending_unread (p.Shape branch) = PolicyShape branch
+ending_unread (p.Unknown branch) = PolicyUnknown branch
+ending_unread p.Memory = Memory
 
 -- by an error of the judging
-abbrev pub ending_unvalued : JudgeError → Ending
-ending_unvalued (j.Rule branch rule) = By (PolicyRule branch rule)
-ending_unvalued j.Base = By Base
-ending_unvalued (j.Size found) = By (Size found)
-ending_unvalued j.Memory = By Memory
+abbrev pub ending_unvalued : JudgeError → Cause
+ending_unvalued (j.Rule branch rule) = PolicyRule branch rule
+ending_unvalued j.Base = Base
+ending_unvalued (j.Size found) = Size found
+ending_unvalued j.Memory = Memory
 
 -- ---- what it reports
 

@@ -26,8 +26,6 @@ use Rattle.clr_top.specs.Judging.{JudgeReports, judge_ends}
 use Rattle.clr_top.specs.Making.{MakeGives, made_docs}
 use Rattle.clr_top.specs.Outputs.{AddsFront, Fails, Leaves, Outputs}
 use Rattle.clr_top.specs.Plans.{PlanGives, no_name}
-use Rattle.clr_top.specs.declared.ending.Ending.{Ending}
-use Rattle.clr_top.specs.declared.ending.Ending.TheVariants.{By}
 use Rattle.clr_top.specs.declared.ending.Status.{Status}
 use Rattle.clr_top.specs.declared.ending.Status.TheVariants as s
 
@@ -47,31 +45,24 @@ number_of s.Memory = 8
 number_of s.PolicyNo = 9
 number_of s.Absent = 10
 
-abbrev pub status_by_cause : Cause → Status
-status_by_cause Words = s.Words
-status_by_cause (Refused doc row column why) = s.Refused
-status_by_cause NoPath = s.NoPath
-status_by_cause (ReadFault doc) = s.ReadFault
-status_by_cause (Absent doc) = s.Absent
-status_by_cause (WriteFault doc) = s.WriteFault
-status_by_cause (TooLong doc max) = s.Limit
-status_by_cause (Cells found) = s.Limit
-status_by_cause (Size found) = s.Limit
-status_by_cause Base = s.Limit
-status_by_cause (CertificateNo reason) = s.CertificateNo
-status_by_cause PolicyJson = s.PolicyNo
-status_by_cause (PolicyShape branch) = s.PolicyNo
-status_by_cause (PolicyUnknown branch) = s.PolicyNo
-status_by_cause (PolicyRule branch rule) = s.PolicyNo
-status_by_cause Memory = s.Memory
-
--- the status by which a run ends
-abbrev pub status_of : Ending → Status
-status_of (By cause) = status_by_cause cause
-
--- the text of the note
-abbrev pub note_of : Ending → List ℕ
-note_of (By cause) = note_text_of cause
+-- the status by which a run ends that a cause keeps from its outputs
+abbrev pub status_of : Cause → Status
+status_of Words = s.Words
+status_of (Refused doc row column why) = s.Refused
+status_of NoPath = s.NoPath
+status_of (ReadFault doc) = s.ReadFault
+status_of (Absent doc) = s.Absent
+status_of (WriteFault doc) = s.WriteFault
+status_of (TooLong doc max) = s.Limit
+status_of (Cells found) = s.Limit
+status_of (Size found) = s.Limit
+status_of Base = s.Limit
+status_of (CertificateNo reason) = s.CertificateNo
+status_of PolicyJson = s.PolicyNo
+status_of (PolicyShape branch) = s.PolicyNo
+status_of (PolicyUnknown branch) = s.PolicyNo
+status_of (PolicyRule branch rule) = s.PolicyNo
+status_of Memory = s.Memory
 
 -- ---- what is asked
 
@@ -97,47 +88,47 @@ doc_of f.Stock = d.Stock
 doc_of f.Demand = d.Demand
 
 -- how a run ends by what stands against a season
-abbrev pub stopped : Stop → Ending
-stopped (absent file) = By (Absent (doc_of file))
-stopped (too_long file) = By (TooLong (doc_of file) most_bytes)
-stopped (refused file refusal) = By (Refused (doc_of file) refusal.row refusal.column refusal.why)
-stopped (too_many_cells found) = By (Cells found)
+abbrev pub stopped : Stop → Cause
+stopped (absent file) = Absent (doc_of file)
+stopped (too_long file) = TooLong (doc_of file) most_bytes
+stopped (refused file refusal) = Refused (doc_of file) refusal.row refusal.column refusal.why
+stopped (too_many_cells found) = Cells found
 
 -- how a run ends by an error of its season
-abbrev pub ending_by : SeasonError → Ending
-ending_by (e.Read file) = By (ReadFault (doc_of file))
-ending_by (e.Absent file) = By (Absent (doc_of file))
-ending_by (e.TooLong file) = By (TooLong (doc_of file) most_bytes)
-ending_by (e.Refused file row column why) = By (Refused (doc_of file) row column why)
-ending_by (e.Cells found) = By (Cells found)
-ending_by e.Memory = By Memory
+abbrev pub ending_by : SeasonError → Cause
+ending_by (e.Read file) = ReadFault (doc_of file)
+ending_by (e.Absent file) = Absent (doc_of file)
+ending_by (e.TooLong file) = TooLong (doc_of file) most_bytes
+ending_by (e.Refused file row column why) = Refused (doc_of file) row column why
+ending_by (e.Cells found) = Cells found
+ending_by e.Memory = Memory
 
 -- how a run ends by what its folder reads to
-abbrev pub season_ends : (Season → Option Ending) → Result Season Stop → Option Ending
+abbrev pub season_ends : (Season → Option Cause) → Result Season Stop → Option Cause
 season_ends ends (Ok season) = ends season
 season_ends ends (Err stop) = Some (stopped stop)
 
 -- how a plan ends by its season
-abbrev pub plan_ends : Season → Option Ending
-plan_ends season = if is_live season.rules [] then None else Some (By NoPath)
+abbrev pub plan_ends : Season → Option Cause
+plan_ends season = if is_live season.rules [] then None else Some NoPath
 
-abbrev pub job_ends : Job → Files → Ask → Option Ending
+abbrev pub job_ends : Job → Files → Ask → Option Cause
 job_ends j.Plan held ask = season_ends plan_ends (season_in held ask.folder)
 job_ends j.Check held ask = season_ends (λ season. check_ends season ask held) (season_in held ask.folder)
 job_ends j.Judge held ask = season_ends (λ season. judge_ends season ask held) (season_in held ask.folder)
 job_ends j.Make held ask = None
 
 -- how a run ends by the files, where it doesn't come to its outputs
-abbrev pub ends_by : Files → Ask → Option Ending
+abbrev pub ends_by : Files → Ask → Option Cause
 ends_by held ask = job_ends ask.job held ask
 
 -- how it ends by the words, and then by the files
-abbrev pub ending_asked : Files → List (List ℕ) → Option Ending
-ending_asked held words = option_map_or (ends_by held) (asked_of words) (Some (By Words))
+abbrev pub ending_asked : Files → List (List ℕ) → Option Cause
+ending_asked held words = option_map_or (ends_by held) (asked_of words) (Some Words)
 
 -- The status is exactly what the words and the files say: where they come to outputs, all else is a fault or want of memory; and where the
 -- run ends by them, its status is that, or a fault of the shelf or want of memory.
-abbrev pub Exactly : Status → Option Ending → Type 0
+abbrev pub Exactly : Status → Option Cause → Type 0
 Exactly status None = (status ≡ s.Ok) ⊎ ((status ≡ s.WriteFault) ⊎ ((status ≡ s.ReadFault) ⊎ (status ≡ s.Memory)))
 Exactly status (Some ending) = (status ≡ status_of ending) ⊎ ((status ≡ s.ReadFault) ⊎ (status ≡ s.Memory))
 
@@ -162,18 +153,18 @@ abbrev pub Writes : Option Files → List (List ℕ) → (Outputs → Type 0) �
 Writes files words Holds = (ask : Ask) × (outputs : Outputs) × (asked_of words ≡ Some ask) × Gives files ask outputs × Holds outputs
 
 -- After a fault of an output those before it stand whole, of it a front or no file, and nothing of those behind it.
-abbrev pub LeavesOutputs : Option Files → List (List ℕ) → Option Files → Option Files → Option (List ℕ) → Option (List ℕ) → Ending → Type 0
+abbrev pub LeavesOutputs : Option Files → List (List ℕ) → Option Files → Option Files → Option (List ℕ) → Option (List ℕ) → Cause → Type 0
 LeavesOutputs files words made_old made_new written_old written_new ending =
-    (doc : Doc) → ending ≡ By (WriteFault doc) → Writes files words (λ outputs. Leaves (docs_asked words) outputs made_old made_new written_old written_new doc)
+    (doc : Doc) → ending ≡ WriteFault doc → Writes files words (λ outputs. Leaves (docs_asked words) outputs made_old made_new written_old written_new doc)
 
 -- ---- why a run ends without its report
 
 -- The job reads files, and the run ends so by them.
-abbrev pub ByFiles : Option Files → Ask → Ending → Type 0
+abbrev pub ByFiles : Option Files → Ask → Cause → Type 0
 ByFiles files ask ending = (ask.job ≢ j.Make) × IfSome files (λ held. ends_by held ask ≡ Some ending)
 
 -- an error of the season of a folder, and why it comes
-abbrev pub IsSeasonError : Option Files → List ℕ → ℕ → Type 0 → Ending → Type 0
+abbrev pub IsSeasonError : Option Files → List ℕ → ℕ → Type 0 → Cause → Type 0
 IsSeasonError files folder taken ShelfRose ending =
     (error : SeasonError) × (ending ≡ ending_by error) × IfSome files (λ held. SeasonGives (λ season. season) (Err error) (season_in held folder))
     × ((file : File) → error ≡ e.Read file → ShelfRose) × ((file : File) → error ≡ e.TooLong file → most_bytes < taken)
@@ -206,36 +197,36 @@ NoneObeys files ask = (ask.job ≡ j.Plan) × OfSeason files ask (λ season. NoP
 
 -- Why a run ends behind the words and before it writes: what is asked; the files of the shelf, where they are told; the bytes that were
 -- taken of the open file in the end; and whether the shelf's faults rose.
-abbrev pub ReadEnds : Option Files → Ask → ℕ → Type 0 → Ending → Type 0
-ReadEnds files ask taken ShelfRose (By Words) = ⊥
-ReadEnds files ask taken ShelfRose (By (Refused doc row column why)) = ByFiles files ask (By (Refused doc row column why))
-ReadEnds files ask taken ShelfRose (By NoPath) = NoneObeys files ask
-ReadEnds files ask taken ShelfRose (By (ReadFault doc)) = ShelfRose × ReachesDoc files ask doc
-ReadEnds files ask taken ShelfRose (By (Absent doc)) = ByFiles files ask (By (Absent doc))
-ReadEnds files ask taken ShelfRose (By (WriteFault doc)) = ⊥
-ReadEnds files ask taken ShelfRose (By (TooLong doc max)) = (max < taken) × ByFiles files ask (By (TooLong doc max))
-ReadEnds files ask taken ShelfRose (By (Cells found)) = ByFiles files ask (By (Cells found))
-ReadEnds files ask taken ShelfRose (By (Size found)) = ByFiles files ask (By (Size found))
-ReadEnds files ask taken ShelfRose (By Base) = ByFiles files ask (By Base)
-ReadEnds files ask taken ShelfRose (By (CertificateNo reason)) = ByFiles files ask (By (CertificateNo reason))
-ReadEnds files ask taken ShelfRose (By PolicyJson) = ByFiles files ask (By PolicyJson)
-ReadEnds files ask taken ShelfRose (By (PolicyShape branch)) = ByFiles files ask (By (PolicyShape branch))
-ReadEnds files ask taken ShelfRose (By (PolicyUnknown branch)) = ByFiles files ask (By (PolicyUnknown branch))
-ReadEnds files ask taken ShelfRose (By (PolicyRule branch rule)) = ByFiles files ask (By (PolicyRule branch rule))
-ReadEnds files ask taken ShelfRose (By Memory) = Unit {0}
+abbrev pub ReadEnds : Option Files → Ask → ℕ → Type 0 → Cause → Type 0
+ReadEnds files ask taken ShelfRose Words = ⊥
+ReadEnds files ask taken ShelfRose (Refused doc row column why) = ByFiles files ask (Refused doc row column why)
+ReadEnds files ask taken ShelfRose NoPath = NoneObeys files ask
+ReadEnds files ask taken ShelfRose (ReadFault doc) = ShelfRose × ReachesDoc files ask doc
+ReadEnds files ask taken ShelfRose (Absent doc) = ByFiles files ask (Absent doc)
+ReadEnds files ask taken ShelfRose (WriteFault doc) = ⊥
+ReadEnds files ask taken ShelfRose (TooLong doc max) = (max < taken) × ByFiles files ask (TooLong doc max)
+ReadEnds files ask taken ShelfRose (Cells found) = ByFiles files ask (Cells found)
+ReadEnds files ask taken ShelfRose (Size found) = ByFiles files ask (Size found)
+ReadEnds files ask taken ShelfRose Base = ByFiles files ask Base
+ReadEnds files ask taken ShelfRose (CertificateNo reason) = ByFiles files ask (CertificateNo reason)
+ReadEnds files ask taken ShelfRose PolicyJson = ByFiles files ask PolicyJson
+ReadEnds files ask taken ShelfRose (PolicyShape branch) = ByFiles files ask (PolicyShape branch)
+ReadEnds files ask taken ShelfRose (PolicyUnknown branch) = ByFiles files ask (PolicyUnknown branch)
+ReadEnds files ask taken ShelfRose (PolicyRule branch rule) = ByFiles files ask (PolicyRule branch rule)
+ReadEnds files ask taken ShelfRose Memory = Unit {0}
 
 -- Why a run ends before it writes: memory was wanting, the words ask nothing, or what is read.
-abbrev pub EndsBefore : Option Files → List (List ℕ) → ℕ → Type 0 → Ending → Type 0
+abbrev pub EndsBefore : Option Files → List (List ℕ) → ℕ → Type 0 → Cause → Type 0
 EndsBefore files words taken ShelfRose ending =
-    (ending ≡ By Memory) ⊎ (((ending ≡ By Words) × (asked_of words ≡ None)) ⊎ ((ask : Ask) × (asked_of words ≡ Some ask) × ReadEnds files ask taken ShelfRose ending))
+    (ending ≡ Memory) ⊎ (((ending ≡ Words) × (asked_of words ≡ None)) ⊎ ((ask : Ask) × (asked_of words ≡ Some ask) × ReadEnds files ask taken ShelfRose ending))
 
 -- Why a run ends: before it writes, or by a fault of an output, where the words and the files come to outputs. The three conditions say
 -- whether the faults of the shelf, of the desk and of the report's sink rose.
-abbrev pub Caused : Option Files → List (List ℕ) → ℕ → Type 0 → Type 0 → Type 0 → Ending → Type 0
+abbrev pub Caused : Option Files → List (List ℕ) → ℕ → Type 0 → Type 0 → Type 0 → Cause → Type 0
 Caused files words taken ShelfRose DeskRose OutRose ending =
     EndsBefore files words taken ShelfRose ending
-    ⊎ ((doc : Doc) × (ending ≡ By (WriteFault doc)) × Fails (docs_asked words) DeskRose OutRose doc × IfSome files (λ held. ending_asked held words ≡ None))
+    ⊎ ((doc : Doc) × (ending ≡ WriteFault doc) × Fails (docs_asked words) DeskRose OutRose doc × IfSome files (λ held. ending_asked held words ≡ None))
 
 -- The note of how the run ends was added, or a front of it where the note's faults rose.
-abbrev pub Notes : Option (List ℕ) → Option (List ℕ) → ℕ → ℕ → Ending → Type 0
-Notes old new faults_old faults_new ending = Appends old new (note_of ending) ⊎ (Rose faults_old faults_new × AddsFront old new (note_of ending))
+abbrev pub Notes : Option (List ℕ) → Option (List ℕ) → ℕ → ℕ → Cause → Type 0
+Notes old new faults_old faults_new ending = Appends old new (note_text_of ending) ⊎ (Rose faults_old faults_new × AddsFront old new (note_text_of ending))

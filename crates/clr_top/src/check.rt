@@ -7,11 +7,9 @@ ghost use Rattle.clr_report.specs.declared.note.Cause.{Cause};
 ghost use Rattle.clr_report.specs.declared.note.Doc.{Doc};
 ghost use Rattle.clr_rules.specs.Rules.{IsPath};
 ghost use Rattle.clr_top.specs.Checking.{CheckReports, cert_path, check_ends, ending_unaccepted};
-ghost use Rattle.clr_top.specs.declared.ending.Ending.{Ending};
 ghost use Rattle.clr_top.specs.FileEnds.{EndsBy};
 ghost use Rattle.clr_words.specs.Asked.{ask_of};
 
-use crate::ending::{Ending, by};
 use clr_check::{CheckError, Claims, check_file};
 use clr_io::Shelf;
 use clr_report::{Cause, Doc, check_text};
@@ -33,28 +31,28 @@ fn cert_name(alloc: Global, asked: &Asked) -> Result<String, AllocError>
 }
 
 // How a run ends by a certificate that was not accepted.
-fn unaccepted(error: CheckError) -> Ending
+fn unaccepted(error: CheckError) -> Cause
     ensures { result ≡ ending_unaccepted error }
 {
     let doc = Doc::Certificate;
     match error {
-        CheckError::Failed => by(Cause::ReadFault { doc }),
-        CheckError::Absent => by(Cause::Absent { doc }),
-        CheckError::TooLong { max } => by(Cause::TooLong { doc, max }),
-        CheckError::No(no) => by(Cause::CertificateNo { no }),
-        CheckError::Memory => by(Cause::Memory),
+        CheckError::Failed => Cause::ReadFault { doc },
+        CheckError::Absent => Cause::Absent { doc },
+        CheckError::TooLong { max } => Cause::TooLong { doc, max },
+        CheckError::No(no) => Cause::CertificateNo { no },
+        CheckError::Memory => Cause::Memory,
     }
 }
 
 // The report on the claims of a certificate.
-fn claims_report(alloc: Global, season: &Season, claims: &Claims) -> Result<Vec<u8>, Ending>
+fn claims_report(alloc: Global, season: &Season, claims: &Claims) -> Result<Vec<u8>, Cause>
     requires { IsPath season.now.rules claims.now.path }
     ensures text { IfOk result (λ text. text.items ≡ check_text season.now (claims_of claims.now)) }
-    ensures memory { (ending : Ending) → IsErrOf result ending → ending ≡ Ending.By Cause.Memory }
+    ensures memory { (ending : Cause) → IsErrOf result ending → ending ≡ Cause.Memory }
 {
     match check_text(alloc, season, claims) {
         Ok(text) => Ok(text),
-        Err(_) => Err(by(Cause::Memory)),
+        Err(_) => Err(Cause::Memory),
     }
 }
 
@@ -68,15 +66,15 @@ pub(crate) fn check_season<H: Shelf>(
     season: &Season,
     asked: &Asked,
     shelf: &mut H,
-) -> Result<Vec<u8>, Ending>
+) -> Result<Vec<u8>, Cause>
     ensures reports { IfOk result (λ text. CheckReports (H.files shelf.old) season.now (ask_of asked.now) text.items) }
     ensures passes { IfOk result (λ text. IfSome (H.files shelf.old) (λ held. check_ends season.now (ask_of asked.now) held ≡ None)) }
-    ensures ends { (ending : Ending) → IsErrOf result ending → EndsBy (H.files shelf.old) (check_ends season.now (ask_of asked.now)) Doc.Certificate (H.taken shelf.new) (H.faults shelf.old) (H.faults shelf.new) ending }
+    ensures ends { (ending : Cause) → IsErrOf result ending → EndsBy (H.files shelf.old) (check_ends season.now (ask_of asked.now)) Doc.Certificate (H.taken shelf.new) (H.faults shelf.old) (H.faults shelf.new) ending }
     ensures files { H.files shelf.new ≡ H.files shelf.old }
     ensures later { H.faults shelf.old ≤ H.faults shelf.new }
 {
     let Ok(name) = cert_name(alloc, asked) else {
-        return Err(by(Cause::Memory));
+        return Err(Cause::Memory);
     };
     match check_file(alloc, season, shelf, name.as_str()) {
         Ok(claims) => claims_report(alloc, season, &claims),

@@ -91,7 +91,10 @@ fn shelves_fail_at_certificates(rt: HostRuntime) -> Result<(), Fail> {
     let whole = worked_certificate(alloc, 0, "")?;
     for fail in [13, 14, 15] {
         let answer = checked(alloc, TWO_WEEKS, &whole, 65_536, &[fail])?;
-        assert!(rt; answer.notes(Status::ReadFault, "read fault: certificate"), "{fail}");
+        assert!(rt;
+            answer.notes(Status::ReadFault, "read fault: certificate"),
+            "{fail}"
+        );
     }
     let answer = checked(alloc, TWO_WEEKS, &whole, 65_536, &[16])?;
     assert!(rt; answer.reports(CHECK_REPORT));

@@ -1,8 +1,8 @@
 // How a run ends, and the note of it.
 ghost use Rattle.std.specs.Prelude.{◌≡◌};
-ghost use Rattle.clr_top.specs.Runs.{Notes, doc_of, number_of, note_of, status_by_cause, status_of};
+ghost use Rattle.clr_top.specs.Runs.{Notes, doc_of, number_of, status_of};
 
-use clr_io::{Failed, Sink, write_whole};
+use clr_io::{Sink, write_whole};
 use clr_report::{Cause, Doc, note_text};
 use clr_season::File;
 
@@ -54,22 +54,9 @@ impl Status {
     }
 }
 
-/// Why a run ends without its whole report.
-#[derive(Clone, Copy)]
-pub enum Ending {
-    /// By a cause that the notes tell.
-    By { cause: Cause },
-}
-
-/// The end by a cause that the notes tell.
-pub(crate) fn by(cause: Cause) -> Ending
-    ensures { result ≡ Ending.By cause }
-{
-    Ending::By { cause }
-}
-
-fn status_by(cause: Cause) -> Status
-    ensures { result ≡ status_by_cause cause }
+/// The status by which a run ends that a cause keeps from its whole report.
+pub(crate) fn ending_status(cause: Cause) -> Status
+    ensures { result ≡ status_of cause }
 {
     match cause {
         Cause::Words => Status::Words,
@@ -91,15 +78,6 @@ fn status_by(cause: Cause) -> Status
     }
 }
 
-/// The status by which a run ends.
-pub(crate) fn ending_status(ending: Ending) -> Status
-    ensures { result ≡ status_of ending }
-{
-    match ending {
-        Ending::By { cause } => status_by(cause),
-    }
-}
-
 /// A file as the notes name it.
 pub(crate) fn doc(file: File) -> Doc
     ensures { result ≡ doc_of file }
@@ -113,22 +91,12 @@ pub(crate) fn doc(file: File) -> Doc
     }
 }
 
-fn write_told<N: Sink>(note: &mut N, cause: Cause) -> Result<(), Failed>
-    ensures notes { Notes (N.written note.old) (N.written note.new) (N.faults note.old) (N.faults note.new) (Ending.By cause) }
+/// Writes the note of why a run ends, as far as the sink takes it.
+pub(crate) fn write_note<N: Sink>(note: &mut N, cause: Cause)
+    ensures notes { Notes (N.written note.old) (N.written note.new) (N.faults note.old) (N.faults note.new) cause }
     ensures around { N.around note.new ≡ N.around note.old }
 {
     let mut text = [0; 256];
     let count = note_text(&cause, &mut text);
-    write_whole(note, &text[..count])
-}
-
-/// Writes the note of how a run ends, as far as the sink takes it.
-pub(crate) fn write_note<N: Sink>(note: &mut N, ending: Ending)
-    ensures notes { Notes (N.written note.old) (N.written note.new) (N.faults note.old) (N.faults note.new) ending }
-    ensures around { N.around note.new ≡ N.around note.old }
-{
-    let written = match ending {
-        Ending::By { cause } => write_told(note, cause),
-    };
-    let _ = written;
+    let _ = write_whole(note, &text[..count]);
 }

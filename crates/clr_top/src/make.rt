@@ -12,10 +12,8 @@ ghost use Rattle.clr_season.specs.declared.reads.File.{File};
 ghost use Rattle.clr_season.specs.declared.reads.SeasonError.{SeasonError};
 ghost use Rattle.clr_top.specs.Making.{IsPlanReport, MakeReports, made_docs, made_files};
 ghost use Rattle.clr_top.specs.Outputs.{LeavesFiles, with_files};
-ghost use Rattle.clr_top.specs.declared.ending.Ending.{Ending};
 ghost use Rattle.clr_words.specs.Asked.{IsAsk, ask_of};
 
-use crate::ending::{Ending, by};
 use crate::plan::plan_season;
 use clr_io::{Desk, Failed, MemoryShelf, Shelf, write_whole};
 use clr_make::{Made, folder_holds_made, make_files};
@@ -132,15 +130,15 @@ fn read_made(alloc: Global, folder: &str, made: &Made) -> Result<Season, SeasonE
 }
 
 // The report on the plan of a season of which some path obeys.
-fn report_on(alloc: Global, season: &Season, asked: &Asked) -> Result<Vec<u8>, Ending>
+fn report_on(alloc: Global, season: &Season, asked: &Asked) -> Result<Vec<u8>, Cause>
     requires facts { IsSeason season.now }
     requires some_path { SomePathObeys season.now.rules }
     requires asked { IsAsk (ask_of asked.now) }
     ensures text { IfOk result (λ text. IsPlanReport season.now (ask_of asked.now) text.items) }
-    ensures ends { (ending : Ending) → IsErrOf result ending → ending ≡ Ending.By Cause.Memory }
+    ensures ends { (ending : Cause) → IsErrOf result ending → ending ≡ Cause.Memory }
 {
     let Ok(live) = Live::build(alloc, season.rules()) else {
-        return Err(by(Cause::Memory));
+        return Err(Cause::Memory);
     };
     match plan_season(alloc, season, &live, asked) {
         Ok(plan) => Ok(plan.text),
@@ -153,22 +151,22 @@ fn report_on(alloc: Global, season: &Season, asked: &Asked) -> Result<Vec<u8>, E
 ///
 /// The season is read from the made files as from any others, from a shelf in memory. Nothing stands against it and some
 /// path obeys, so the only error is want of memory.
-pub(crate) fn make_season(alloc: Global, asked: &Asked) -> Result<MadeSeason, Ending>
+pub(crate) fn make_season(alloc: Global, asked: &Asked) -> Result<MadeSeason, Cause>
     requires { IsAsk (ask_of asked.now) }
     ensures reports { IfOk result (λ season. MakeReports (ask_of asked.now) season.made season.text.items) }
     ensures files { IfOk result (λ season. made_files season ≡ files_in (string_bytes asked.now.folder) season.made) }
-    ensures ends { (ending : Ending) → IsErrOf result ending → ending ≡ Ending.By Cause.Memory }
+    ensures ends { (ending : Cause) → IsErrOf result ending → ending ≡ Cause.Memory }
 {
     let folder = asked.folder.as_str();
     let Ok(names) = made_names(alloc, folder) else {
-        return Err(by(Cause::Memory));
+        return Err(Cause::Memory);
     };
     let Ok(made) = make_files(alloc, asked.seed) else {
-        return Err(by(Cause::Memory));
+        return Err(Cause::Memory);
     };
     // `Read` tells a fault of the shelf. None of its calls is to fail, so it doesn't come, though no clause says so.
     let Ok(season) = read_made(alloc, folder, &made) else {
-        return Err(by(Cause::Memory));
+        return Err(Cause::Memory);
     };
     match report_on(alloc, &season, asked) {
         Ok(text) => Ok(MadeSeason { made, names, text }),

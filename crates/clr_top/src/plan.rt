@@ -15,12 +15,10 @@ ghost use Rattle.clr_rules.specs.Rules.{IsPath};
 ghost use Rattle.clr_season.specs.Season.{IsSeason};
 ghost use Rattle.clr_storedp.specs.Tables.{AreOfSeason, AreSmall, AreTablesOf};
 ghost use Rattle.clr_subgrad.specs.Run.{run_table};
-ghost use Rattle.clr_top.specs.declared.ending.Ending.{Ending};
 ghost use Rattle.clr_top.specs.Held.{IfJoint, IsWhole, entries_of};
 ghost use Rattle.clr_top.specs.Plans.{IsPlan, IsPlanText, IsSound};
 ghost use Rattle.clr_words.specs.Asked.{IsAsk, ask_of};
 
-use crate::ending::{Ending, by};
 use crate::entries::PlanEntries;
 use crate::exact::exact_table;
 use clr_joint::Joint;
@@ -170,7 +168,7 @@ pub(crate) fn plan_season(
     season: &Season,
     live: &Live,
     asked: &Asked,
-) -> Result<Plan, Ending>
+) -> Result<Plan, Cause>
     requires facts { IsSeason season.now }
     requires live { live.now ≡ live_pairs season.now.rules }
     requires any { (0 < length live.now) ↔ SomePathObeys season.now.rules }
@@ -179,13 +177,13 @@ pub(crate) fn plan_season(
     ensures whole { IfOk result (λ plan. IsWhole season.now plan.entries) }
     ensures accepted { IfOk result (λ plan. Accepts season.now (cert_text season.now (entries_of plan.entries))) }
     ensures any { IfOk result (λ plan. SomePathObeys season.now.rules) }
-    ensures ends { (ending : Ending) → IsErrOf result ending → (ending ≡ Ending.By Cause.Memory) ⊎ ((ending ≡ Ending.By Cause.NoPath) × NoPathObeys season.now.rules) }
+    ensures ends { (ending : Cause) → IsErrOf result ending → (ending ≡ Cause.Memory) ⊎ ((ending ≡ Cause.NoPath) × NoPathObeys season.now.rules) }
 {
     if !live.any() {
-        return Err(by(Cause::NoPath));
+        return Err(Cause::NoPath);
     }
     match plan_of(alloc, season, live, asked) {
         Ok(plan) => Ok(plan),
-        Err(_) => Err(by(Cause::Memory)),
+        Err(_) => Err(Cause::Memory),
     }
 }

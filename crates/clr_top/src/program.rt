@@ -9,13 +9,12 @@ ghost use Rattle.clr_season.specs.Reads.{season_in};
 ghost use Rattle.clr_season.specs.Season.{IsSeason};
 ghost use Rattle.clr_words.specs.Asked.{IsAsk, ask_of, asked_of};
 ghost use Rattle.clr_words.specs.declared.asked.Job.{Job};
-ghost use Rattle.clr_top.specs.declared.ending.Ending.{Ending};
 ghost use Rattle.clr_top.specs.Outputs.{Fails, Leaves, LeavesFiles, Wrote, with_files};
 ghost use Rattle.clr_top.specs.Ready.{IsPlanReady, IsReady, docs_ready, outputs_of, plan_docs, plan_outputs};
 ghost use Rattle.clr_top.specs.Runs.{Caused, EndsBefore, Exactly, Gives, IsSeasonError, LeavesOutputs, MakesSeason, Notes, ReadEnds, ReadsSeason, Writes, docs_asked, docs_by, ending_asked, ending_by, ends_by, status_of};
 
 use crate::check::check_season;
-use crate::ending::{Ending, Status, by, doc, ending_status, write_note};
+use crate::ending::{Status, doc, ending_status, write_note};
 use crate::judge::judge_season;
 use crate::make::{MadeSeason, make_season, write_season};
 use crate::plan::{Plan, plan_season};
@@ -30,50 +29,50 @@ use std::alloc::Global;
 // ---- what is read
 
 // What the words ask.
-fn read_asked(alloc: Global, words: &[String]) -> Result<Asked, Ending>
+fn read_asked(alloc: Global, words: &[String]) -> Result<Asked, Cause>
     ensures asked { IfOk result (λ asked. asked_of (map string_bytes words.now) ≡ Some (ask_of asked)) }
     ensures facts { IfOk result (λ asked. IsAsk (ask_of asked)) }
-    ensures ends { (ending : Ending) → IsErrOf result ending → (ending ≡ Ending.By Cause.Memory) ⊎ ((ending ≡ Ending.By Cause.Words) × (asked_of (map string_bytes words.now) ≡ None)) }
+    ensures ends { (ending : Cause) → IsErrOf result ending → (ending ≡ Cause.Memory) ⊎ ((ending ≡ Cause.Words) × (asked_of (map string_bytes words.now) ≡ None)) }
 {
     match read_words(alloc, words) {
         Ok(asked) => Ok(asked),
-        Err(WordsError::Faulty) => Err(by(Cause::Words)),
-        Err(WordsError::Memory) => Err(by(Cause::Memory)),
+        Err(WordsError::Faulty) => Err(Cause::Words),
+        Err(WordsError::Memory) => Err(Cause::Memory),
     }
 }
 
 // How a run ends by an error of its season.
-fn unread(error: SeasonError) -> Ending
+fn unread(error: SeasonError) -> Cause
     ensures { result ≡ ending_by error }
 {
     match error {
-        SeasonError::Read { file } => by(Cause::ReadFault { doc: doc(file) }),
-        SeasonError::Absent { file } => by(Cause::Absent { doc: doc(file) }),
-        SeasonError::TooLong { file } => by(Cause::TooLong {
+        SeasonError::Read { file } => Cause::ReadFault { doc: doc(file) },
+        SeasonError::Absent { file } => Cause::Absent { doc: doc(file) },
+        SeasonError::TooLong { file } => Cause::TooLong {
             doc: doc(file),
             max: 33_554_432,
-        }),
+        },
         SeasonError::Refused {
             file,
             row,
             column,
             why,
-        } => by(Cause::Refused {
+        } => Cause::Refused {
             doc: doc(file),
             row,
             column,
             why,
-        }),
-        SeasonError::Cells { found } => by(Cause::Cells { found }),
-        SeasonError::Memory => by(Cause::Memory),
+        },
+        SeasonError::Cells { found } => Cause::Cells { found },
+        SeasonError::Memory => Cause::Memory,
     }
 }
 
 // The season of the folder that is asked.
-fn asked_season<H: Shelf>(alloc: Global, asked: &Asked, shelf: &mut H) -> Result<Season, Ending>
+fn asked_season<H: Shelf>(alloc: Global, asked: &Asked, shelf: &mut H) -> Result<Season, Cause>
     ensures season { IfOk result (λ season. IfSome (H.files shelf.old) (λ held. season_in held (string_bytes asked.now.folder) ≡ Ok season)) }
     ensures facts { IfOk result (λ season. IsSeason season) }
-    ensures ends { (ending : Ending) → IsErrOf result ending → IsSeasonError (H.files shelf.old) (string_bytes asked.now.folder) (H.taken shelf.new) (Rose (H.faults shelf.old) (H.faults shelf.new)) ending }
+    ensures ends { (ending : Cause) → IsErrOf result ending → IsSeasonError (H.files shelf.old) (string_bytes asked.now.folder) (H.taken shelf.new) (Rose (H.faults shelf.old) (H.faults shelf.new)) ending }
     ensures files { H.files shelf.new ≡ H.files shelf.old }
     ensures later { H.faults shelf.old ≤ H.faults shelf.new }
 {
@@ -117,20 +116,20 @@ fn report(ready: &Ready) -> &[u8]
 }
 
 // The plan that is asked.
-fn ready_plan<H: Shelf>(alloc: Global, asked: Asked, shelf: &mut H) -> Result<Ready, Ending>
+fn ready_plan<H: Shelf>(alloc: Global, asked: Asked, shelf: &mut H) -> Result<Ready, Cause>
     requires job { asked.job ≡ Job.Plan }
     requires facts { IsAsk (ask_of asked) }
     ensures gives { IfOk result (λ ready. Gives (H.files shelf.old) (ask_of asked) (outputs_of ready)) }
     ensures docs { IfOk result (λ ready. docs_ready ready ≡ docs_by asked.job (string_bytes asked.cert)) }
     ensures passes { IfOk result (λ ready. IfSome (H.files shelf.old) (λ held. ends_by held (ask_of asked) ≡ None)) }
     ensures ready { IfOk result (λ ready. IsReady ready) }
-    ensures ends { (ending : Ending) → IsErrOf result ending → ReadEnds (H.files shelf.old) (ask_of asked) (H.taken shelf.new) (Rose (H.faults shelf.old) (H.faults shelf.new)) ending }
+    ensures ends { (ending : Cause) → IsErrOf result ending → ReadEnds (H.files shelf.old) (ask_of asked) (H.taken shelf.new) (Rose (H.faults shelf.old) (H.faults shelf.new)) ending }
     ensures files { H.files shelf.new ≡ H.files shelf.old }
     ensures later { H.faults shelf.old ≤ H.faults shelf.new }
 {
     let season = asked_season(alloc, &asked, shelf)?;
     let Ok(live) = Live::build(alloc, season.rules()) else {
-        return Err(by(Cause::Memory));
+        return Err(Cause::Memory);
     };
     let plan = plan_season(alloc, &season, &live, &asked)?;
     let ready = PlanReady {
@@ -143,13 +142,13 @@ fn ready_plan<H: Shelf>(alloc: Global, asked: Asked, shelf: &mut H) -> Result<Re
 }
 
 // The report on the certificate that is asked.
-fn ready_check<H: Shelf>(alloc: Global, asked: &Asked, shelf: &mut H) -> Result<Ready, Ending>
+fn ready_check<H: Shelf>(alloc: Global, asked: &Asked, shelf: &mut H) -> Result<Ready, Cause>
     requires job { asked.now.job ≡ Job.Check }
     ensures gives { IfOk result (λ ready. Gives (H.files shelf.old) (ask_of asked.now) (outputs_of ready)) }
     ensures docs { IfOk result (λ ready. docs_ready ready ≡ docs_by asked.now.job (string_bytes asked.now.cert)) }
     ensures passes { IfOk result (λ ready. IfSome (H.files shelf.old) (λ held. ends_by held (ask_of asked.now) ≡ None)) }
     ensures ready { IfOk result (λ ready. IsReady ready) }
-    ensures ends { (ending : Ending) → IsErrOf result ending → ReadEnds (H.files shelf.old) (ask_of asked.now) (H.taken shelf.new) (Rose (H.faults shelf.old) (H.faults shelf.new)) ending }
+    ensures ends { (ending : Cause) → IsErrOf result ending → ReadEnds (H.files shelf.old) (ask_of asked.now) (H.taken shelf.new) (Rose (H.faults shelf.old) (H.faults shelf.new)) ending }
     ensures files { H.files shelf.new ≡ H.files shelf.old }
     ensures later { H.faults shelf.old ≤ H.faults shelf.new }
 {
@@ -159,13 +158,13 @@ fn ready_check<H: Shelf>(alloc: Global, asked: &Asked, shelf: &mut H) -> Result<
 }
 
 // The report on the policy of the folder that is asked.
-fn ready_judge<H: Shelf>(alloc: Global, asked: &Asked, shelf: &mut H) -> Result<Ready, Ending>
+fn ready_judge<H: Shelf>(alloc: Global, asked: &Asked, shelf: &mut H) -> Result<Ready, Cause>
     requires job { asked.now.job ≡ Job.Judge }
     ensures gives { IfOk result (λ ready. Gives (H.files shelf.old) (ask_of asked.now) (outputs_of ready)) }
     ensures docs { IfOk result (λ ready. docs_ready ready ≡ docs_by asked.now.job (string_bytes asked.now.cert)) }
     ensures passes { IfOk result (λ ready. IfSome (H.files shelf.old) (λ held. ends_by held (ask_of asked.now) ≡ None)) }
     ensures ready { IfOk result (λ ready. IsReady ready) }
-    ensures ends { (ending : Ending) → IsErrOf result ending → ReadEnds (H.files shelf.old) (ask_of asked.now) (H.taken shelf.new) (Rose (H.faults shelf.old) (H.faults shelf.new)) ending }
+    ensures ends { (ending : Cause) → IsErrOf result ending → ReadEnds (H.files shelf.old) (ask_of asked.now) (H.taken shelf.new) (Rose (H.faults shelf.old) (H.faults shelf.new)) ending }
     ensures files { H.files shelf.new ≡ H.files shelf.old }
     ensures later { H.faults shelf.old ≤ H.faults shelf.new }
 {
@@ -175,25 +174,25 @@ fn ready_judge<H: Shelf>(alloc: Global, asked: &Asked, shelf: &mut H) -> Result<
 }
 
 // The season of the seed that is asked.
-fn ready_make(alloc: Global, asked: &Asked) -> Result<Ready, Ending>
+fn ready_make(alloc: Global, asked: &Asked) -> Result<Ready, Cause>
     requires job { asked.now.job ≡ Job.Make }
     requires facts { IsAsk (ask_of asked.now) }
     ensures gives { IfOk result (λ ready. (files : Option Files) → Gives files (ask_of asked.now) (outputs_of ready)) }
     ensures docs { IfOk result (λ ready. docs_ready ready ≡ docs_by asked.now.job (string_bytes asked.now.cert)) }
     ensures ready { IfOk result (λ ready. IsReady ready) }
-    ensures ends { (ending : Ending) → IsErrOf result ending → ending ≡ Ending.By Cause.Memory }
+    ensures ends { (ending : Cause) → IsErrOf result ending → ending ≡ Cause.Memory }
 {
     let season = make_season(alloc, asked)?;
     Ok(Ready::Make { season })
 }
 
 // What the words ask, ready to be written.
-fn prepare<H: Shelf>(alloc: Global, words: &[String], shelf: &mut H) -> Result<Ready, Ending>
+fn prepare<H: Shelf>(alloc: Global, words: &[String], shelf: &mut H) -> Result<Ready, Cause>
     ensures writes { IfOk result (λ ready. Writes (H.files shelf.old) (map string_bytes words.now) (λ outputs. outputs ≡ outputs_of ready)) }
     ensures docs { IfOk result (λ ready. docs_ready ready ≡ docs_asked (map string_bytes words.now)) }
     ensures passes { IfOk result (λ ready. IfSome (H.files shelf.old) (λ held. ending_asked held (map string_bytes words.now) ≡ None)) }
     ensures ready { IfOk result (λ ready. IsReady ready) }
-    ensures ends { (ending : Ending) → IsErrOf result ending → EndsBefore (H.files shelf.old) (map string_bytes words.now) (H.taken shelf.new) (Rose (H.faults shelf.old) (H.faults shelf.new)) ending }
+    ensures ends { (ending : Cause) → IsErrOf result ending → EndsBefore (H.files shelf.old) (map string_bytes words.now) (H.taken shelf.new) (Rose (H.faults shelf.old) (H.faults shelf.new)) ending }
     ensures files { H.files shelf.new ≡ H.files shelf.old }
     ensures later { H.faults shelf.old ≤ H.faults shelf.new }
 {
@@ -209,14 +208,14 @@ fn prepare<H: Shelf>(alloc: Global, words: &[String], shelf: &mut H) -> Result<R
 // ---- writing
 
 // Makes the certificate on the desk, where one is asked.
-fn write_plan<D: Desk>(alloc: Global, ready: &PlanReady, desk: &mut D) -> Result<(), Ending>
+fn write_plan<D: Desk>(alloc: Global, ready: &PlanReady, desk: &mut D) -> Result<(), Cause>
     requires { IsPlanReady ready.now }
     ensures ok { OnOk result (D.made desk.new ≡ with_files (D.made desk.old) (plan_outputs ready.now).made) }
     ensures none { plan_docs ready.now ≡ [] → desk.new ≡ desk.old }
-    ensures ends { (ending : Ending) → IsErrOf result ending → (ending ≡ Ending.By Cause.Memory) ⊎ ((doc : Doc) × (ending ≡ Ending.By (Cause.WriteFault doc))) }
-    ensures memory { IsErrOf result (Ending.By Cause.Memory) → desk.new ≡ desk.old }
-    ensures failed { (doc : Doc) → IsErrOf result (Ending.By (Cause.WriteFault doc)) → Contains (plan_docs ready.now) doc × Rose (D.faults desk.old) (D.faults desk.new) }
-    ensures leaves { (doc : Doc) → IsErrOf result (Ending.By (Cause.WriteFault doc)) → LeavesFiles (plan_docs ready.now) (plan_outputs ready.now).made (D.made desk.old) (D.made desk.new) doc }
+    ensures ends { (ending : Cause) → IsErrOf result ending → (ending ≡ Cause.Memory) ⊎ ((doc : Doc) × (ending ≡ Cause.WriteFault doc)) }
+    ensures memory { IsErrOf result Cause.Memory → desk.new ≡ desk.old }
+    ensures failed { (doc : Doc) → IsErrOf result (Cause.WriteFault doc) → Contains (plan_docs ready.now) doc × Rose (D.faults desk.old) (D.faults desk.new) }
+    ensures leaves { (doc : Doc) → IsErrOf result (Cause.WriteFault doc) → LeavesFiles (plan_docs ready.now) (plan_outputs ready.now).made (D.made desk.old) (D.made desk.new) doc }
     ensures later { D.faults desk.old ≤ D.faults desk.new }
 {
     let name = ready.cert.as_str();
@@ -226,22 +225,22 @@ fn write_plan<D: Desk>(alloc: Global, ready: &PlanReady, desk: &mut D) -> Result
     let entries = &ready.plan.entries;
     match write_cert(alloc, &ready.season, &ready.live, entries, name, desk) {
         Ok(()) => Ok(()),
-        Err(CertError::Failed) => Err(by(Cause::WriteFault {
+        Err(CertError::Failed) => Err(Cause::WriteFault {
             doc: Doc::Certificate,
-        })),
-        Err(CertError::Memory) => Err(by(Cause::Memory)),
+        }),
+        Err(CertError::Memory) => Err(Cause::Memory),
     }
 }
 
 // Makes the files on the desk.
-fn write_made<D: Desk>(alloc: Global, ready: &Ready, desk: &mut D) -> Result<(), Ending>
+fn write_made<D: Desk>(alloc: Global, ready: &Ready, desk: &mut D) -> Result<(), Cause>
     requires { IsReady ready.now }
     ensures ok { OnOk result (D.made desk.new ≡ with_files (D.made desk.old) (outputs_of ready.now).made) }
     ensures none { docs_ready ready.now ≡ [] → desk.new ≡ desk.old }
-    ensures ends { (ending : Ending) → IsErrOf result ending → (ending ≡ Ending.By Cause.Memory) ⊎ ((doc : Doc) × (ending ≡ Ending.By (Cause.WriteFault doc))) }
-    ensures memory { IsErrOf result (Ending.By Cause.Memory) → desk.new ≡ desk.old }
-    ensures failed { (doc : Doc) → IsErrOf result (Ending.By (Cause.WriteFault doc)) → Contains (docs_ready ready.now) doc × Rose (D.faults desk.old) (D.faults desk.new) }
-    ensures leaves { (doc : Doc) → IsErrOf result (Ending.By (Cause.WriteFault doc)) → LeavesFiles (docs_ready ready.now) (outputs_of ready.now).made (D.made desk.old) (D.made desk.new) doc }
+    ensures ends { (ending : Cause) → IsErrOf result ending → (ending ≡ Cause.Memory) ⊎ ((doc : Doc) × (ending ≡ Cause.WriteFault doc)) }
+    ensures memory { IsErrOf result Cause.Memory → desk.new ≡ desk.old }
+    ensures failed { (doc : Doc) → IsErrOf result (Cause.WriteFault doc) → Contains (docs_ready ready.now) doc × Rose (D.faults desk.old) (D.faults desk.new) }
+    ensures leaves { (doc : Doc) → IsErrOf result (Cause.WriteFault doc) → LeavesFiles (docs_ready ready.now) (outputs_of ready.now).made (D.made desk.old) (D.made desk.new) doc }
     ensures later { D.faults desk.old ≤ D.faults desk.new }
 {
     match ready {
@@ -249,7 +248,7 @@ fn write_made<D: Desk>(alloc: Global, ready: &Ready, desk: &mut D) -> Result<(),
         Ready::Report { .. } => Ok(()),
         Ready::Make { season } => match write_season(season, desk) {
             Ok(()) => Ok(()),
-            Err(doc) => Err(by(Cause::WriteFault { doc })),
+            Err(doc) => Err(Cause::WriteFault { doc }),
         },
     }
 }
@@ -260,20 +259,20 @@ fn write_outputs<D: Desk, O: Sink>(
     ready: &Ready,
     desk: &mut D,
     out: &mut O,
-) -> Result<(), Ending>
+) -> Result<(), Cause>
     requires { IsReady ready.now }
     ensures ok { OnOk result (Wrote (outputs_of ready.now) (D.made desk.old) (D.made desk.new) (O.written out.old) (O.written out.new)) }
     ensures none { docs_ready ready.now ≡ [] → desk.new ≡ desk.old }
-    ensures ends { (ending : Ending) → IsErrOf result ending → (ending ≡ Ending.By Cause.Memory) ⊎ ((doc : Doc) × (ending ≡ Ending.By (Cause.WriteFault doc))) }
-    ensures memory { IsErrOf result (Ending.By Cause.Memory) → (O.written out.new ≡ O.written out.old) × (desk.new ≡ desk.old) }
-    ensures failed { (doc : Doc) → IsErrOf result (Ending.By (Cause.WriteFault doc)) → Fails (docs_ready ready.now) (Rose (D.faults desk.old) (D.faults desk.new)) (Rose (O.faults out.old) (O.faults out.new)) doc }
-    ensures leaves { (doc : Doc) → IsErrOf result (Ending.By (Cause.WriteFault doc)) → Leaves (docs_ready ready.now) (outputs_of ready.now) (D.made desk.old) (D.made desk.new) (O.written out.old) (O.written out.new) doc }
+    ensures ends { (ending : Cause) → IsErrOf result ending → (ending ≡ Cause.Memory) ⊎ ((doc : Doc) × (ending ≡ Cause.WriteFault doc)) }
+    ensures memory { IsErrOf result Cause.Memory → (O.written out.new ≡ O.written out.old) × (desk.new ≡ desk.old) }
+    ensures failed { (doc : Doc) → IsErrOf result (Cause.WriteFault doc) → Fails (docs_ready ready.now) (Rose (D.faults desk.old) (D.faults desk.new)) (Rose (O.faults out.old) (O.faults out.new)) doc }
+    ensures leaves { (doc : Doc) → IsErrOf result (Cause.WriteFault doc) → Leaves (docs_ready ready.now) (outputs_of ready.now) (D.made desk.old) (D.made desk.new) (O.written out.old) (O.written out.new) doc }
     ensures around { O.around out.new ≡ O.around out.old }
 {
     write_made(alloc, ready, desk)?;
     match write_whole(out, report(ready)) {
         Ok(()) => Ok(()),
-        Err(_) => Err(by(Cause::WriteFault { doc: Doc::Report })),
+        Err(_) => Err(Cause::WriteFault { doc: Doc::Report }),
     }
 }
 
@@ -284,12 +283,12 @@ fn work<H: Shelf, D: Desk, O: Sink>(
     shelf: &mut H,
     desk: &mut D,
     out: &mut O,
-) -> Result<(), Ending>
+) -> Result<(), Cause>
     ensures ok { OnOk result (Writes (H.files shelf.old) (map string_bytes words.now) (λ outputs. Wrote outputs (D.made desk.old) (D.made desk.new) (O.written out.old) (O.written out.new))) }
     ensures passes { OnOk result (IfSome (H.files shelf.old) (λ held. ending_asked held (map string_bytes words.now) ≡ None)) }
-    ensures caused { (ending : Ending) → IsErrOf result ending → Caused (H.files shelf.old) (map string_bytes words.now) (H.taken shelf.new) (Rose (H.faults shelf.old) (H.faults shelf.new)) (Rose (D.faults desk.old) (D.faults desk.new)) (Rose (O.faults out.old) (O.faults out.new)) ending }
-    ensures leaves { (ending : Ending) → IsErrOf result ending → LeavesOutputs (H.files shelf.old) (map string_bytes words.now) (D.made desk.old) (D.made desk.new) (O.written out.old) (O.written out.new) ending }
-    ensures quiet { (ending : Ending) → IsErrOf result ending → ((doc : Doc) → ending ≢ Ending.By (Cause.WriteFault doc)) → (O.written out.new ≡ O.written out.old) × (desk.new ≡ desk.old) }
+    ensures caused { (ending : Cause) → IsErrOf result ending → Caused (H.files shelf.old) (map string_bytes words.now) (H.taken shelf.new) (Rose (H.faults shelf.old) (H.faults shelf.new)) (Rose (D.faults desk.old) (D.faults desk.new)) (Rose (O.faults out.old) (O.faults out.new)) ending }
+    ensures leaves { (ending : Cause) → IsErrOf result ending → LeavesOutputs (H.files shelf.old) (map string_bytes words.now) (D.made desk.old) (D.made desk.new) (O.written out.old) (O.written out.new) ending }
+    ensures quiet { (ending : Cause) → IsErrOf result ending → ((doc : Doc) → ending ≢ Cause.WriteFault doc) → (O.written out.new ≡ O.written out.old) × (desk.new ≡ desk.old) }
     ensures desk { docs_asked (map string_bytes words.now) ≡ [] → desk.new ≡ desk.old }
     ensures around { O.around out.new ≡ O.around out.old }
     ensures files { H.files shelf.new ≡ H.files shelf.old }
@@ -335,7 +334,7 @@ pub fn run<H: Shelf, D: Desk, O: Sink, N: Sink>(
 
     // Each other status has its cause, and the note of it was written. After a fault the outputs before the failed one stand
     // whole, of the failed one a front or no file, and nothing of a later one.
-    ensures caused { result ≢ Status.Ok → (ending : Ending) × (result ≡ status_of ending)
+    ensures caused { result ≢ Status.Ok → (ending : Cause) × (result ≡ status_of ending)
         × Caused (H.files shelf.old) (map string_bytes words.now) (H.taken shelf.new) (Rose (H.faults shelf.old) (H.faults shelf.new)) (Rose (D.faults desk.old) (D.faults desk.new)) (Rose (O.faults out.old) (O.faults out.new)) ending
         × LeavesOutputs (H.files shelf.old) (map string_bytes words.now) (D.made desk.old) (D.made desk.new) (O.written out.old) (O.written out.new) ending
         × Notes (N.written note.old) (N.written note.new) (N.faults note.old) (N.faults note.new) ending }
