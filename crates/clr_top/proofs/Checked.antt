@@ -1,5 +1,5 @@
 -- How the job `check` ends, and what it reports.
-use Rattle.std.proofs.Common.{◌≡◌, ◌<◌, ◌≤◌, ◌↔◌, ℕ, Bool, true, false, ◌&&◌, ◌==◌, List, length, arith, refl, sym, ap, ◌∙◌, subst, inl, inr}
+use Rattle.std.proofs.Common.{◌≡◌, ◌<◌, ◌≤◌, ◌↔◌, ℕ, ◌==◌, List, length, arith, refl, ap, ◌∙◌, subst, inl, inr}
 use Rattle.std.specs.Prelude.{IfOk, IfSome, IsErrOf, IsSomeAnd, Option, Some, None, Result, Ok, Err, IsTrue}
 use Rattle.std.proofs.lemmas.Bool.{and_parts, cases_lt, eqb-true, le-leb, lt-leb}
 use Rattle.clr_io.specs.Causes.{Rose}
@@ -7,7 +7,7 @@ use Rattle.clr_io.specs.Files.{Files, held}
 use Rattle.clr_rules.specs.Rules.{IsPath, Rulebook, are_rungs, keeps_rules, obeys}
 use Rattle.clr_season.specs.Season.{Season}
 use Rattle.clr_words.specs.Asked.{Ask}
-use Rattle.clr_cert.specs.Accepts.{Accepts, cert_claims, first_no}
+use Rattle.clr_cert.specs.Accepts.{Accepts, first_no}
 use Rattle.clr_cert.specs.declared.no.No.{No}
 use Rattle.clr_check.specs.FileChecks.{IsJudged, IsProved}
 use Rattle.clr_check.specs.Laws.{AcceptedOrRefused}

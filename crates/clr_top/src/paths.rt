@@ -1,6 +1,8 @@
 // Rules and calendars: which path is printed, or that there is none; and chains of many stores.
-use crate::cases::{Files, SMALLEST, asked_of, planned};
+use crate::cases::{Files, SMALLEST, asked_of, held, planned, run_on};
+use crate::certs::certify;
 use crate::ending::Status;
+use clr_io::{MemoryDesk, MemoryShelf};
 use std::alloc::{AllocError, Global};
 use std::test::Fail;
 

@@ -1,9 +1,8 @@
 use Rattle.std.proofs.Common.{◌≡◌, ◌∙◌, ◌∷◌, [], refl, rules, subst, sym, string_bytes}
-use Rattle.std.specs.Prelude.{Err, IsErrOf, OnErr, Result}
+use Rattle.std.specs.Prelude.{Err, IsErrOf}
 use Rattle.clr_cert.specs.Writing.{with_file}
 use Rattle.clr_cert.specs.Writing.{AddsFront as AddsFileFront}
 use Rattle.clr_cert.proofs.Sending.{on_ok}
-use Rattle.clr_report.specs.declared.note.Doc.{Doc}
 use Rattle.clr_report.specs.declared.note.Doc.TheVariants as d
 use Rattle.clr_top.proofs.Making.{made-demand, made-ladder, made-stock}
 use Rattle.clr_top.proofs.Writing.{failed-so, leaves-first, leaves-next, made-next, same-document}

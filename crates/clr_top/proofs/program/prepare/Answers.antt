@@ -1,4 +1,4 @@
-use Rattle.std.proofs.Common.{◌≡◌, inl, refl, map, string_bytes}
+use Rattle.std.proofs.Common.{inl, refl, map, string_bytes}
 use Rattle.clr_words.specs.Asked.{ask_of}
 use Rattle.clr_top.specs.Ready.{outputs_of}
 use Rattle.clr_top.proofs.Ends.{words-pass}

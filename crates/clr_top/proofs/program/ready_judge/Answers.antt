@@ -5,7 +5,7 @@ use Rattle.clr_words.specs.declared.asked.Job.TheVariants as j
 use Rattle.clr_report.specs.declared.note.Doc.TheVariants as d
 use Rattle.clr_top.specs.FileEnds.{EndsBy}
 use Rattle.clr_top.specs.Judging.{JudgeReports, judge_ends}
-use Rattle.clr_top.proofs.Ends.{judge-stops, same-error, season-error}
+use Rattle.clr_top.proofs.Ends.{same-error}
 use Rattle.clr_top.proofs.Further.{further-ends, further-passes, judge-behind, judge-gives}
 use Rattle.clr_top.proofs.program.ready_judge.Goals as goal
 

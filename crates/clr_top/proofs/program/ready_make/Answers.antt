@@ -1,4 +1,3 @@
-use Rattle.std.proofs.Common.{refl}
 use Rattle.clr_words.specs.Asked.{ask_of}
 use Rattle.clr_top.proofs.Making.{make-gives}
 use Rattle.clr_top.proofs.program.ready_make.Goals as goal
