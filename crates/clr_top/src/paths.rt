@@ -313,6 +313,26 @@ fn ordinary_demand(alloc: Global) -> Result<Vec<u8>, AllocError> {
     Ok(text)
 }
 
+const ORDINARY_PLAN: &[u8] =
+    b"season 24 stores 12 weeks 6 rungs base 20\npath 1 1 1 1 4 4 4 4 4 4 4 4\nprices 50.00 50.00 50.00 50.00 35.00 35.00 35.00 35.00 35.00 35.00 35.00 35.00\nrevenue 19920.00000000 19920.00000000\nbest yes\nbound 19920.00000000 step 0\ngap 0.00000000\n";
+
+const ORDINARY_CHECK: &[u8] =
+    b"season 24 stores 12 weeks 6 rungs base 20\ncertificate yes\npath 1 1 1 1 4 4 4 4 4 4 4 4\nprices 50.00 50.00 50.00 50.00 35.00 35.00 35.00 35.00 35.00 35.00 35.00 35.00\nrevenue 19920.00000000 19920.00000000\nbound 19920.00000000\n";
+
+// The plan of the ordinary chain with a certificate, and then a check of it, report what they must.
+fn is_planned_and_checked(alloc: Global, files: Files<'_>) -> Result<bool, AllocError> {
+    let desk = MemoryDesk::new(alloc, 1, 4_000_000, 65_536, Vec::new(alloc))?;
+    let mut all = held(alloc, files, 0)?;
+    let planned = certify(alloc, files, desk, &[])?;
+    for index in 0..planned.desk.count() {
+        let name = String::from_str(alloc, "c")?;
+        all.push((name, planned.desk.bytes(index).to_vec(alloc)?))?;
+    }
+    let mut shelf = MemoryShelf::new(all, 65_536, Vec::new(alloc));
+    let checked = run_on(alloc, &["check", "f", "--cert", "c"], &mut shelf, &[])?;
+    Ok(planned.out.bytes() == ORDINARY_PLAN && checked.reports(ORDINARY_CHECK))
+}
+
 // In each store the first price sells 1.5 units in each of 4 weeks, and 35.00 sells 1.5 in each of 8, which earn 45.00 and 30.00
 // a unit more than the salvage of 5.00, and the salvage of all 40 units is 200.00: 830.00, 24 times. The first markdown to 35.00
 // is just allowed. The certificate of the plan is accepted.
@@ -331,25 +351,6 @@ fn the_ordinary_chain_is_planned_and_checked(rt: HostRuntime) -> Result<(), Fail
         demand: &demand,
         ..SMALLEST
     };
-    let desk = MemoryDesk::new(alloc, 1, 4_000_000, 65_536, Vec::new(alloc))?;
-    let answer = certify(alloc, files, desk, &[])?;
-    assert!(rt; answer.status == Status::Ok && answer.note.bytes().is_empty());
-    assert!(rt;
-        answer.out.bytes()
-            == b"season 24 stores 12 weeks 6 rungs base 20\npath 1 1 1 1 4 4 4 4 4 4 4 4\nprices 50.00 50.00 50.00 50.00 35.00 35.00 35.00 35.00 35.00 35.00 35.00 35.00\nrevenue 19920.00000000 19920.00000000\nbest yes\nbound 19920.00000000 step 0\ngap 0.00000000\n".as_slice()
-    );
-    assert!(rt; answer.desk.count() == 1);
-    let mut all = held(alloc, files, 0)?;
-    all.push((
-        String::from_str(alloc, "c")?,
-        answer.desk.bytes(0).to_vec(alloc)?,
-    ))?;
-    let mut shelf = MemoryShelf::new(all, 65_536, Vec::new(alloc));
-    let answer = run_on(alloc, &["check", "f", "--cert", "c"], &mut shelf, &[])?;
-    assert!(rt;
-        answer.reports(
-            b"season 24 stores 12 weeks 6 rungs base 20\ncertificate yes\npath 1 1 1 1 4 4 4 4 4 4 4 4\nprices 50.00 50.00 50.00 50.00 35.00 35.00 35.00 35.00 35.00 35.00 35.00 35.00\nrevenue 19920.00000000 19920.00000000\nbound 19920.00000000\n"
-        )
-    );
+    assert!(rt; is_planned_and_checked(alloc, files)?);
     Ok(())
 }
