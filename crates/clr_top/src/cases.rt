@@ -1,7 +1,7 @@
 // What the worked cases share: the files of a season, and what a run answers to them.
 use crate::ending::Status;
 use crate::program::run;
-use clr_io::{FileShelf, MemoryDesk, MemoryShelf, MemorySink, Shelf};
+use clr_io::{Desk, FileShelf, MemoryDesk, MemoryShelf, MemorySink, Shelf};
 use std::alloc::{AllocError, Global};
 use std::fs;
 use std::rt::Files as RealFiles;
@@ -82,16 +82,19 @@ pub(crate) struct Answer {
     pub status: Status,
     pub out: MemorySink,
     pub note: MemorySink,
-    pub made: usize,
 }
 
 impl Answer {
     // The report stands whole, and no note.
     pub(crate) fn reports(&self, report: &[u8]) -> bool {
+        self.status == Status::Ok && self.out.bytes() == report && self.note.bytes().is_empty()
+    }
+
+    // The report ends with these lines, and no note stands.
+    pub(crate) fn ends_with(&self, lines: &str) -> bool {
         self.status == Status::Ok
-            && self.out.bytes() == report
+            && self.out.bytes().ends_with(lines.as_bytes())
             && self.note.bytes().is_empty()
-            && self.made == 0
     }
 
     // The note stands, and nothing else.
@@ -102,27 +105,45 @@ impl Answer {
             && line.ends_with(b"\n")
             && line.starts_with(note.as_bytes())
             && line.len() == note.len().saturating_add(1)
-            && self.made == 0
     }
 }
 
+// The calls that fail on the sinks, counted from 1.
+#[derive(Clone, Copy)]
+pub(crate) struct Failing<'a> {
+    pub report: &'a [u64],
+    pub note: &'a [u64],
+}
+
+pub(crate) const NONE_FAILS: Failing<'static> = Failing {
+    report: &[],
+    note: &[],
+};
+
+// What the words ask of a shelf and a desk. The contract of `run` is long, so the tests call it here alone.
+pub(crate) fn run_over<H: Shelf, D: Desk>(
+    alloc: Global,
+    words: &[&str],
+    shelf: &mut H,
+    desk: &mut D,
+    failing: Failing<'_>,
+) -> Result<Answer, AllocError> {
+    let words = words_of(alloc, words)?;
+    let mut out = MemorySink::new(alloc, 4096, 16, list_of(alloc, failing.report)?)?;
+    let mut note = MemorySink::new(alloc, 256, 7, list_of(alloc, failing.note)?)?;
+    let status = run(alloc, &words, shelf, desk, &mut out, &mut note);
+    Ok(Answer { status, out, note })
+}
+
+// What the words ask of a shelf, over a desk that takes no file.
 pub(crate) fn run_on<H: Shelf>(
     alloc: Global,
     words: &[&str],
     shelf: &mut H,
-    fail: &[u64],
+    failing: Failing<'_>,
 ) -> Result<Answer, AllocError> {
-    let words = words_of(alloc, words)?;
-    let mut desk = MemoryDesk::new(alloc, 1, 10, 1, Vec::new(alloc))?;
-    let mut out = MemorySink::new(alloc, 4096, 16, list_of(alloc, fail)?)?;
-    let mut note = MemorySink::new(alloc, 256, 7, Vec::new(alloc))?;
-    let status = run(alloc, &words, shelf, &mut desk, &mut out, &mut note);
-    Ok(Answer {
-        status,
-        out,
-        note,
-        made: desk.count(),
-    })
+    let mut desk = MemoryDesk::new(alloc, 0, 0, 1, Vec::new(alloc))?;
+    run_over(alloc, words, shelf, &mut desk, failing)
 }
 
 // What the words ask of files in memory.
@@ -132,7 +153,7 @@ pub(crate) fn asked_of(
     files: Files<'_>,
 ) -> Result<Answer, AllocError> {
     let mut shelf = MemoryShelf::new(held(alloc, files, 0)?, 16, Vec::new(alloc));
-    run_on(alloc, words, &mut shelf, &[])
+    run_on(alloc, words, &mut shelf, NONE_FAILS)
 }
 
 // The plan of files in memory.
@@ -170,6 +191,6 @@ pub(crate) fn planned_on_disk(
 ) -> Result<Answer, Fail> {
     write_files(rt, alloc, folder, files)?;
     let mut shelf = FileShelf::new(rt);
-    let answer = run_on(alloc, &["plan", folder], &mut shelf, &[])?;
+    let answer = run_on(alloc, &["plan", folder], &mut shelf, NONE_FAILS)?;
     Ok(answer)
 }

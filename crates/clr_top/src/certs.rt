@@ -1,8 +1,9 @@
 // Certificates that a run writes to a desk.
-use crate::cases::{Files, TWO_WEEKS, held, list_of, words_of, write_files};
+use crate::cases::{
+    Answer, Failing, Files, NONE_FAILS, TWO_WEEKS, held, list_of, run_over, write_files,
+};
 use crate::ending::Status;
-use crate::program::run;
-use clr_io::{FileDesk, FileShelf, MemoryDesk, MemoryShelf, MemorySink};
+use clr_io::{FileDesk, FileShelf, MemoryDesk, MemoryShelf};
 use std::alloc::{AllocError, Global};
 use std::fs;
 use std::test::Fail;
@@ -77,55 +78,39 @@ pub(crate) fn worked_certificate(
     Ok(text)
 }
 
-// What a run answered, and what stands on its desk and sinks.
-#[derive(Drop)]
-pub(crate) struct Certified {
-    pub status: Status,
-    pub desk: MemoryDesk,
-    pub out: MemorySink,
-    pub note: MemorySink,
+// The same season in version 3.
+pub(crate) const VERSION_3: Files<'static> = Files {
+    rules: b"{\"version\":3,\"weeks\":2,\"base\":2}",
+    stock: b"store,units,salvage,relabel\na,2,0,0\n",
+    ..TWO_WEEKS
+};
+
+// The lines that stand before the others in version 3.
+pub(crate) const LONG_HEAD: &str = "clearance certificate 2\nlengths,36,1,2,2\n";
+
+// One file `c` stands on the desk, with a front of so many of these bytes.
+fn has_front(desk: &MemoryDesk, bytes: &[u8], count: usize) -> bool {
+    desk.count() == 1
+        && desk.name(0) == "c"
+        && desk.bytes(0).len() == count
+        && bytes.starts_with(desk.bytes(0))
 }
 
-impl Certified {
-    // One file of this name was made, with a front of so many of these bytes.
-    fn made_front(&self, name: &str, bytes: &[u8], count: usize) -> bool {
-        self.desk.count() == 1
-            && self.desk.name(0) == name
-            && self.desk.bytes(0).len() == count
-            && bytes.starts_with(self.desk.bytes(0))
-    }
-
-    // One file of this name with these bytes was made.
-    fn made(&self, name: &str, bytes: &[u8]) -> bool {
-        self.made_front(name, bytes, bytes.len())
-    }
-
-    // The certificate failed: the report is empty, and the note tells it.
-    fn failed(&self) -> bool {
-        self.status == Status::WriteFault
-            && self.out.bytes().is_empty()
-            && self.note.bytes() == b"write fault: certificate\n".as_slice()
-    }
+// One file `c` stands on the desk, with these bytes.
+fn has_made(desk: &MemoryDesk, bytes: &[u8]) -> bool {
+    has_front(desk, bytes, bytes.len())
 }
 
-// The plan with a certificate `c`, on this desk and with these faults of the report's sink.
+// The plan with a certificate `c`, on this desk and with these faults of the sinks.
 pub(crate) fn certify(
     alloc: Global,
     files: Files<'_>,
-    mut desk: MemoryDesk,
-    fail: &[u64],
-) -> Result<Certified, AllocError> {
-    let words = words_of(alloc, &["plan", "f", "--cert", "c"])?;
+    desk: &mut MemoryDesk,
+    failing: Failing<'_>,
+) -> Result<Answer, AllocError> {
     let mut shelf = MemoryShelf::new(held(alloc, files, 0)?, 64, Vec::new(alloc));
-    let mut out = MemorySink::new(alloc, 4096, 16, list_of(alloc, fail)?)?;
-    let mut note = MemorySink::new(alloc, 256, 7, Vec::new(alloc))?;
-    let status = run(alloc, &words, &mut shelf, &mut desk, &mut out, &mut note);
-    Ok(Certified {
-        status,
-        desk,
-        out,
-        note,
-    })
+    let words = ["plan", "f", "--cert", "c"];
+    run_over(alloc, &words, &mut shelf, desk, failing)
 }
 
 #[test]
@@ -133,14 +118,10 @@ fn certificates_are_written(rt: HostRuntime) -> Result<(), Fail> {
     let alloc = rt.alloc();
     let text = text_behind(alloc, "clearance certificate 1\n")?;
     for piece in [65_536, 7] {
-        let desk = MemoryDesk::new(alloc, 1, 4096, piece, Vec::new(alloc))?;
-        let answer = certify(alloc, TWO_WEEKS, desk, &[])?;
-        assert!(rt;
-            answer.status == Status::Ok && answer.note.bytes().is_empty(),
-            "{piece}"
-        );
-        assert!(rt; answer.made("c", &text), "{piece}");
-        assert!(rt; answer.out.bytes() == REPORT, "{piece}");
+        let mut desk = MemoryDesk::new(alloc, 1, 4096, piece, Vec::new(alloc))?;
+        let answer = certify(alloc, TWO_WEEKS, &mut desk, NONE_FAILS)?;
+        assert!(rt; answer.reports(REPORT), "{piece}");
+        assert!(rt; has_made(&desk, &text), "{piece}");
     }
     Ok(())
 }
@@ -148,15 +129,10 @@ fn certificates_are_written(rt: HostRuntime) -> Result<(), Fail> {
 #[test]
 fn long_heads_are_written(rt: HostRuntime) -> Result<(), Fail> {
     let alloc = rt.alloc();
-    let files = Files {
-        rules: b"{\"version\":3,\"weeks\":2,\"base\":2}",
-        stock: b"store,units,salvage,relabel\na,2,0,0\n",
-        ..TWO_WEEKS
-    };
-    let text = text_behind(alloc, "clearance certificate 2\nlengths,36,1,2,2\n")?;
-    let desk = MemoryDesk::new(alloc, 1, 4096, 65_536, Vec::new(alloc))?;
-    let answer = certify(alloc, files, desk, &[])?;
-    assert!(rt; answer.status == Status::Ok && answer.made("c", &text));
+    let text = text_behind(alloc, LONG_HEAD)?;
+    let mut desk = MemoryDesk::new(alloc, 1, 4096, 65_536, Vec::new(alloc))?;
+    let answer = certify(alloc, VERSION_3, &mut desk, NONE_FAILS)?;
+    assert!(rt; answer.reports(REPORT) && has_made(&desk, &text));
     Ok(())
 }
 
@@ -164,13 +140,15 @@ fn long_heads_are_written(rt: HostRuntime) -> Result<(), Fail> {
 fn desks_fail(rt: HostRuntime) -> Result<(), Fail> {
     let alloc = rt.alloc();
     let text = text_behind(alloc, "clearance certificate 1\n")?;
-    let desk = MemoryDesk::new(alloc, 1, 4096, 65_536, list_of(alloc, &[1])?)?;
-    let no_file = certify(alloc, TWO_WEEKS, desk, &[])?;
-    assert!(rt; no_file.failed() && no_file.desk.count() == 0);
+    let mut desk = MemoryDesk::new(alloc, 1, 4096, 65_536, list_of(alloc, &[1])?)?;
+    let no_file = certify(alloc, TWO_WEEKS, &mut desk, NONE_FAILS)?;
+    assert!(rt; no_file.notes(Status::WriteFault, "write fault: certificate"));
+    assert!(rt; desk.count() == 0);
     // The room ends in the midst of the text.
-    let desk = MemoryDesk::new(alloc, 1, 100, 65_536, Vec::new(alloc))?;
-    let no_room = certify(alloc, TWO_WEEKS, desk, &[])?;
-    assert!(rt; no_room.failed() && no_room.made_front("c", &text, 100));
+    let mut desk = MemoryDesk::new(alloc, 1, 100, 65_536, Vec::new(alloc))?;
+    let no_room = certify(alloc, TWO_WEEKS, &mut desk, NONE_FAILS)?;
+    assert!(rt; no_room.notes(Status::WriteFault, "write fault: certificate"));
+    assert!(rt; has_front(&desk, &text, 100));
     Ok(())
 }
 
@@ -179,9 +157,13 @@ fn desks_fail(rt: HostRuntime) -> Result<(), Fail> {
 fn reports_fail_behind_certificates(rt: HostRuntime) -> Result<(), Fail> {
     let alloc = rt.alloc();
     let text = text_behind(alloc, "clearance certificate 1\n")?;
-    let desk = MemoryDesk::new(alloc, 1, 4096, 65_536, Vec::new(alloc))?;
-    let no_report = certify(alloc, TWO_WEEKS, desk, &[3])?;
-    assert!(rt; no_report.status == Status::WriteFault && no_report.made("c", &text));
+    let mut desk = MemoryDesk::new(alloc, 1, 4096, 65_536, Vec::new(alloc))?;
+    let failing = Failing {
+        report: &[3],
+        note: &[],
+    };
+    let no_report = certify(alloc, TWO_WEEKS, &mut desk, failing)?;
+    assert!(rt; no_report.status == Status::WriteFault && has_made(&desk, &text));
     assert!(rt; no_report.note.bytes() == b"write fault: report\n".as_slice());
     assert!(rt; no_report.out.bytes() == &REPORT[..32]);
     Ok(())
@@ -192,20 +174,16 @@ fn certificates_stand_in_real_folders(rt: HostRuntime) -> Result<(), Fail> {
     let alloc = rt.alloc();
     fs::create_dir(&rt, "certified")?;
     write_files(&rt, alloc, "certified", TWO_WEEKS)?;
-    let words = words_of(alloc, &["plan", "certified", "--cert", "certified/c"])?;
+    let text = text_behind(alloc, "clearance certificate 1\n")?;
     let mut shelf = FileShelf::new(&rt);
     let mut desk = FileDesk::new(&rt);
-    let mut out = MemorySink::new(alloc, 4096, 16, Vec::new(alloc))?;
-    let mut note = MemorySink::new(alloc, 256, 7, Vec::new(alloc))?;
-    let status = run(alloc, &words, &mut shelf, &mut desk, &mut out, &mut note);
-    assert!(rt; status == Status::Ok && out.bytes() == REPORT);
-    let text = text_behind(alloc, "clearance certificate 1\n")?;
+    let words = ["plan", "certified", "--cert", "certified/c"];
+    let whole = run_over(alloc, &words, &mut shelf, &mut desk, NONE_FAILS)?;
+    assert!(rt; whole.reports(REPORT));
     assert!(rt; fs::read(&rt, "certified/c")?.as_slice() == text.as_slice());
     // A folder that isn't there holds no certificate.
-    let words = words_of(alloc, &["plan", "certified", "--cert", "certified/no/c"])?;
-    let mut empty = MemorySink::new(alloc, 4096, 16, Vec::new(alloc))?;
-    let status = run(alloc, &words, &mut shelf, &mut desk, &mut empty, &mut note);
-    assert!(rt; status == Status::WriteFault && empty.bytes().is_empty());
-    assert!(rt; note.bytes() == b"write fault: certificate\n".as_slice());
+    let words = ["plan", "certified", "--cert", "certified/no/c"];
+    let no_folder = run_over(alloc, &words, &mut shelf, &mut desk, NONE_FAILS)?;
+    assert!(rt; no_folder.notes(Status::WriteFault, "write fault: certificate"));
     Ok(())
 }

@@ -1,6 +1,6 @@
 // Certificates that a run checks. The worked one, with a line that is changed, is read in pieces of several lengths.
-use crate::cases::{Answer, Files, TWO_WEEKS, held, list_of, run_on};
-use crate::certs::{text_behind, worked_certificate};
+use crate::cases::{Answer, Files, NONE_FAILS, TWO_WEEKS, held, list_of, run_on};
+use crate::certs::{LONG_HEAD, VERSION_3, text_behind, worked_certificate};
 use crate::ending::Status;
 use clr_io::MemoryShelf;
 use std::alloc::{AllocError, Global};
@@ -47,7 +47,7 @@ fn checked(
         text.to_vec(alloc)?,
     ))?;
     let mut shelf = MemoryShelf::new(all, piece.max(1), list_of(alloc, fail)?);
-    run_on(alloc, &["check", "f"], &mut shelf, &[])
+    run_on(alloc, &["check", "f"], &mut shelf, NONE_FAILS)
 }
 
 #[test]
@@ -70,16 +70,11 @@ fn certificates_are_checked(rt: HostRuntime) -> Result<(), Fail> {
 #[test]
 fn long_heads_are_checked(rt: HostRuntime) -> Result<(), Fail> {
     let alloc = rt.alloc();
-    let files = Files {
-        rules: b"{\"version\":3,\"weeks\":2,\"base\":2}",
-        stock: b"store,units,salvage,relabel\na,2,0,0\n",
-        ..TWO_WEEKS
-    };
-    let text = text_behind(alloc, "clearance certificate 2\nlengths,36,1,2,2\n")?;
-    let answer = checked(alloc, files, &text, 16, &[])?;
+    let text = text_behind(alloc, LONG_HEAD)?;
+    let answer = checked(alloc, VERSION_3, &text, 16, &[])?;
     assert!(rt; answer.reports(CHECK_REPORT));
     let other = text_behind(alloc, "clearance certificate 2\nlengths,37,1,2,2\n")?;
-    let answer = checked(alloc, files, &other, 16, &[])?;
+    let answer = checked(alloc, VERSION_3, &other, 16, &[])?;
     assert!(rt; answer.notes(Status::CertificateNo, "certificate no: row 2 form"));
     Ok(())
 }

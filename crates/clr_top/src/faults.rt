@@ -2,12 +2,11 @@
 ghost use Rattle.std.specs.Prelude.{◌≤◌};
 
 use crate::cases::{
-    Answer, Files, SMALLEST, SMALLEST_REPORT, asked_of, held, list_of, planned, planned_on_disk,
-    run_on, words_of,
+    Answer, Failing, Files, NONE_FAILS, SMALLEST, SMALLEST_REPORT, asked_of, held, list_of,
+    planned, planned_on_disk, run_on,
 };
 use crate::ending::Status;
-use crate::program::run;
-use clr_io::{FileShelf, MemoryDesk, MemoryShelf, MemorySink};
+use clr_io::{FileShelf, MemoryShelf};
 use std::alloc::{AllocError, Global};
 use std::fs;
 use std::test::Fail;
@@ -18,7 +17,7 @@ const USAGE: &str =
 // The plan of files without one of them, by its number from 1.
 fn without(alloc: Global, files: Files<'_>, left_out: usize) -> Result<Answer, AllocError> {
     let mut shelf = MemoryShelf::new(held(alloc, files, left_out)?, 16, Vec::new(alloc));
-    run_on(alloc, &["plan", "f"], &mut shelf, &[])
+    run_on(alloc, &["plan", "f"], &mut shelf, NONE_FAILS)
 }
 
 #[test]
@@ -98,7 +97,7 @@ fn long_and_deep_files_are_told(rt: HostRuntime) -> Result<(), Fail> {
             ..SMALLEST
         };
         let mut shelf = MemoryShelf::new(held(alloc, files, 0)?, 1_000_000, Vec::new(alloc));
-        let answer = run_on(alloc, &["plan", "f"], &mut shelf, &[])?;
+        let answer = run_on(alloc, &["plan", "f"], &mut shelf, NONE_FAILS)?;
         assert!(rt; answer.reports(SMALLEST_REPORT) == fits, "{count}");
         assert!(rt;
             answer.notes(Status::Limit, "limit: demand.csv longer than 33554432") != fits,
@@ -118,18 +117,18 @@ fn long_and_deep_files_are_told(rt: HostRuntime) -> Result<(), Fail> {
 fn real_folders_lack_files(rt: HostRuntime) -> Result<(), Fail> {
     let alloc = rt.alloc();
     let mut shelf = FileShelf::new(&rt);
-    let no_folder = run_on(alloc, &["plan", "lacking"], &mut shelf, &[])?;
+    let no_folder = run_on(alloc, &["plan", "lacking"], &mut shelf, NONE_FAILS)?;
     assert!(rt; no_folder.notes(Status::Absent, "absent: rules.json"));
     fs::create_dir(&rt, "lacking")?;
     let whole = planned_on_disk(&rt, alloc, "lacking", SMALLEST)?;
     assert!(rt; whole.reports(SMALLEST_REPORT));
     fs::remove_file(&rt, "lacking/demand.csv")?;
-    let no_demand = run_on(alloc, &["plan", "lacking"], &mut shelf, &[])?;
+    let no_demand = run_on(alloc, &["plan", "lacking"], &mut shelf, NONE_FAILS)?;
     assert!(rt; no_demand.notes(Status::Absent, "absent: demand.csv"));
     // A folder in the place of a file opens, and can't be read.
     fs::create_dir(&rt, "odd")?;
     fs::create_dir(&rt, "odd/rules.json")?;
-    let folder = run_on(alloc, &["plan", "odd"], &mut shelf, &[])?;
+    let folder = run_on(alloc, &["plan", "odd"], &mut shelf, NONE_FAILS)?;
     assert!(rt; folder.notes(Status::ReadFault, "read fault: rules.json"));
     Ok(())
 }
@@ -169,8 +168,8 @@ fn cells_are_counted(rt: HostRuntime) -> Result<(), Fail> {
         let answer = asked_of(alloc, &words, files)?;
         assert!(rt; answer.notes(Status::Limit, "limit: cells 16004304") != fits);
         assert!(rt;
-            answer.out.bytes().ends_with(
-                b"revenue 2094.00000000 2094.00000000\nbest open\nbound 2094.00000000 step 0\ngap 0.00000000\n"
+            answer.ends_with(
+                "revenue 2094.00000000 2094.00000000\nbest open\nbound 2094.00000000 step 0\ngap 0.00000000\n"
             ) == fits
         );
     }
@@ -183,7 +182,7 @@ fn each_call_fails_once(rt: HostRuntime) -> Result<(), Fail> {
     for fail in 1..=19 {
         let fails = list_of(alloc, &[fail])?;
         let mut shelf = MemoryShelf::new(held(alloc, SMALLEST, 0)?, 16, fails);
-        let answer = run_on(alloc, &["plan", "f"], &mut shelf, &[])?;
+        let answer = run_on(alloc, &["plan", "f"], &mut shelf, NONE_FAILS)?;
         let note = match fail {
             1..=4 => "read fault: rules.json",
             5..=8 => "read fault: ladder.csv",
@@ -199,7 +198,11 @@ fn each_call_fails_once(rt: HostRuntime) -> Result<(), Fail> {
     }
     for fail in 1..=12 {
         let mut shelf = MemoryShelf::new(held(alloc, SMALLEST, 0)?, 1000, Vec::new(alloc));
-        let answer = run_on(alloc, &["plan", "f"], &mut shelf, &[fail])?;
+        let failing = Failing {
+            report: &[fail],
+            note: &[],
+        };
+        let answer = run_on(alloc, &["plan", "f"], &mut shelf, failing)?;
         let stands = (16 * (fail as usize - 1)).min(SMALLEST_REPORT.len());
         let failed = stands < SMALLEST_REPORT.len();
         assert!(rt;
@@ -231,42 +234,42 @@ fn words_are_read(rt: HostRuntime) -> Result<(), Fail> {
     ];
     for (words, status, note) in cases {
         let mut shelf = MemoryShelf::new(held(alloc, SMALLEST, 0)?, 16, Vec::new(alloc));
-        let answer = run_on(alloc, words, &mut shelf, &[])?;
+        let answer = run_on(alloc, words, &mut shelf, NONE_FAILS)?;
         assert!(rt; answer.notes(status, note), "{note}");
     }
     let words = [
         "plan", "--steps", "3", "f", "--step=2", "--nodes", "1", "--seed", "7",
     ];
     let mut shelf = MemoryShelf::new(held(alloc, SMALLEST, 0)?, 16, Vec::new(alloc));
-    let answer = run_on(alloc, &words, &mut shelf, &[])?;
+    let answer = run_on(alloc, &words, &mut shelf, NONE_FAILS)?;
     assert!(rt; answer.reports(SMALLEST_REPORT));
     // A note that can't be written changes no status.
-    let mut shelf = MemoryShelf::new(Vec::new(alloc), 16, Vec::new(alloc));
-    let mut desk = MemoryDesk::new(alloc, 1, 10, 1, Vec::new(alloc))?;
-    let mut out = MemorySink::new(alloc, 10, 16, Vec::new(alloc))?;
-    let mut note = MemorySink::new(alloc, 0, 16, Vec::new(alloc))?;
-    let words = words_of(alloc, &["plan"])?;
-    let status = run(alloc, &words, &mut shelf, &mut desk, &mut out, &mut note);
-    assert!(rt; status == Status::Words && note.bytes().is_empty());
+    let failing = Failing {
+        report: &[],
+        note: &[1],
+    };
+    let answer = run_on(alloc, &["plan"], &mut shelf, failing)?;
+    assert!(rt; answer.status == Status::Words && answer.note.bytes().is_empty());
     Ok(())
 }
 
+const NUMBERS: [(Status, u8); 11] = [
+    (Status::Ok, 0),
+    (Status::Refused, 1),
+    (Status::Words, 2),
+    (Status::NoPath, 3),
+    (Status::ReadFault, 4),
+    (Status::WriteFault, 5),
+    (Status::Limit, 6),
+    (Status::CertificateNo, 7),
+    (Status::Memory, 8),
+    (Status::PolicyNo, 9),
+    (Status::Absent, 10),
+];
+
 #[test]
 fn statuses_have_their_numbers(rt: HostRuntime) {
-    let numbers = [
-        (Status::Ok, 0),
-        (Status::Refused, 1),
-        (Status::Words, 2),
-        (Status::NoPath, 3),
-        (Status::ReadFault, 4),
-        (Status::WriteFault, 5),
-        (Status::Limit, 6),
-        (Status::CertificateNo, 7),
-        (Status::Memory, 8),
-        (Status::PolicyNo, 9),
-        (Status::Absent, 10),
-    ];
-    for (status, number) in numbers {
-        assert_eq!(rt; status.number(), number);
+    for (status, number) in &NUMBERS {
+        assert_eq!(rt; status.number(), *number);
     }
 }

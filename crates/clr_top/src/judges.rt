@@ -1,5 +1,5 @@
 // Judged policies: what `run` reports of policy files in memory.
-use crate::cases::{Answer, Files, SMALLEST, TWO_WEEKS, held, run_on};
+use crate::cases::{Answer, Files, NONE_FAILS, SMALLEST, TWO_WEEKS, held, run_on};
 use crate::ending::Status;
 use clr_io::MemoryShelf;
 use std::alloc::{AllocError, Global};
@@ -102,7 +102,7 @@ fn judged(alloc: Global, files: Files<'_>, policy: &[u8]) -> Result<Answer, Allo
         policy.to_vec(alloc)?,
     ))?;
     let mut shelf = MemoryShelf::new(all, 4096, Vec::new(alloc));
-    run_on(alloc, &["judge", "f"], &mut shelf, &[])
+    run_on(alloc, &["judge", "f"], &mut shelf, NONE_FAILS)
 }
 
 #[test]
@@ -123,7 +123,7 @@ fn policies_are_judged(rt: HostRuntime) -> Result<(), Fail> {
 fn a_policy_is_needed(rt: HostRuntime) -> Result<(), Fail> {
     let alloc = rt.alloc();
     let mut shelf = MemoryShelf::new(held(alloc, SMALLEST, 0)?, 16, Vec::new(alloc));
-    let answer = run_on(alloc, &["judge", "f"], &mut shelf, &[])?;
+    let answer = run_on(alloc, &["judge", "f"], &mut shelf, NONE_FAILS)?;
     assert!(rt; answer.notes(Status::Absent, "absent: policy.json"));
     Ok(())
 }

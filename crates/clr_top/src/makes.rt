@@ -2,10 +2,9 @@
 // the definitions alone; the first draws of seed 1 were drawn by hand.
 ghost use Rattle.std.specs.Prelude.{◌≤◌};
 
-use crate::cases::{list_of, words_of};
+use crate::cases::{Answer, NONE_FAILS, list_of, run_on, run_over};
 use crate::ending::Status;
-use crate::program::run;
-use clr_io::{FileDesk, FileShelf, MemoryDesk, MemoryShelf, MemorySink};
+use clr_io::{FileDesk, FileShelf, MemoryDesk, MemoryShelf};
 use std::alloc::{AllocError, Global};
 use std::fs;
 use std::test::Fail;
@@ -42,105 +41,65 @@ const NAMES: [&str; 4] = [
     "out/demand.csv",
 ];
 
-// What a run answered, and what stands on its desk and sinks.
-#[derive(Drop)]
-struct MadeRun {
-    status: Status,
-    desk: MemoryDesk,
-    out: MemorySink,
-    note: MemorySink,
-}
-
-impl MadeRun {
-    // The four files were made, and this report stands.
-    fn reports(&self, report: &[u8]) -> bool {
-        self.status == Status::Ok
-            && self.desk.count() == 4
-            && self.out.bytes() == report
-            && self.note.bytes().is_empty()
-    }
-
-    // The files have their names.
-    fn is_named(&self) -> bool {
-        for (index, name) in NAMES.iter().enumerate() {
-            if index >= self.desk.count() || self.desk.name(index) != *name {
-                return false;
-            }
-        }
-        true
-    }
-
-    // The desk failed: the report is empty, this many files stand, and the note tells it.
-    fn failed(&self, count: usize, note: &[u8]) -> bool {
-        self.status == Status::WriteFault
-            && self.desk.count() == count
-            && self.out.bytes().is_empty()
-            && self.note.bytes() == note
-    }
-}
-
 // Of a plan in few steps.
 const QUICK: [&str; 6] = ["make", "out", "--steps", "0", "--nodes", "0"];
 
+// A desk whose calls of these numbers fail.
+fn desk_of(alloc: Global, fail: &[u64]) -> Result<MemoryDesk, AllocError> {
+    MemoryDesk::new(alloc, 4, 100_000, 65_536, list_of(alloc, fail)?)
+}
+
 // The words are done on this desk. Each call on the shelf would fail.
-fn made_on(alloc: Global, words: &[&str], mut desk: MemoryDesk) -> Result<MadeRun, AllocError> {
-    let words = words_of(alloc, words)?;
-    let mut shelf = MemoryShelf::new(Vec::new(alloc), 1, list_of(alloc, &[1, 2, 3, 4])?);
-    let mut out = MemorySink::new(alloc, 4096, 16, Vec::new(alloc))?;
-    let mut note = MemorySink::new(alloc, 256, 7, Vec::new(alloc))?;
-    let status = run(alloc, &words, &mut shelf, &mut desk, &mut out, &mut note);
-    Ok(MadeRun {
-        status,
-        desk,
-        out,
-        note,
-    })
+fn made(alloc: Global, words: &[&str], desk: &mut MemoryDesk) -> Result<Answer, AllocError> {
+    let fails = list_of(alloc, &[1, 2, 3, 4])?;
+    let mut shelf = MemoryShelf::new(Vec::new(alloc), 1, fails);
+    run_over(alloc, words, &mut shelf, desk, NONE_FAILS)
 }
 
-// The words are done on a desk whose calls of these numbers fail.
-fn made(alloc: Global, words: &[&str], fail: &[u64]) -> Result<MadeRun, AllocError> {
-    let desk = MemoryDesk::new(alloc, 4, 100_000, 65_536, list_of(alloc, fail)?)?;
-    made_on(alloc, words, desk)
+// The four files stand on the desk by their names.
+fn is_named(desk: &MemoryDesk) -> bool {
+    for (index, name) in NAMES.iter().enumerate() {
+        if index >= desk.count() || desk.name(index) != *name {
+            return false;
+        }
+    }
+    desk.count() == 4
 }
 
-// A shelf with the files that stand on a desk.
-fn shelf_of(alloc: Global, desk: &MemoryDesk) -> Result<MemoryShelf, AllocError> {
+// The bytes of a file on the desk; of one that isn't there, none.
+fn file_of(desk: &MemoryDesk, index: usize) -> &[u8] {
+    if index < desk.count() {
+        desk.bytes(index)
+    } else {
+        b""
+    }
+}
+
+// The plan of the files that stand on a desk.
+fn planned(alloc: Global, desk: &MemoryDesk) -> Result<Answer, AllocError> {
     let mut files = Vec::new(alloc);
     for index in 0..desk.count() {
         let name = String::from_str(alloc, desk.name(index))?;
         files.push((name, desk.bytes(index).to_vec(alloc)?))?;
     }
-    Ok(MemoryShelf::new(files, 65_536, Vec::new(alloc)))
-}
-
-// The plan of the files that were made reports the same.
-fn plans_the_same(alloc: Global, made: &MadeRun) -> Result<bool, AllocError> {
-    let words = words_of(alloc, &["plan", "out"])?;
-    let mut shelf = shelf_of(alloc, &made.desk)?;
-    let mut desk = MemoryDesk::new(alloc, 1, 10, 1, Vec::new(alloc))?;
-    let mut out = MemorySink::new(alloc, 4096, 16, Vec::new(alloc))?;
-    let mut note = MemorySink::new(alloc, 256, 7, Vec::new(alloc))?;
-    let status = run(alloc, &words, &mut shelf, &mut desk, &mut out, &mut note);
-    Ok(status == Status::Ok && out.bytes() == made.out.bytes())
+    let mut shelf = MemoryShelf::new(files, 65_536, Vec::new(alloc));
+    run_on(alloc, &["plan", "out"], &mut shelf, NONE_FAILS)
 }
 
 #[test]
 fn seasons_are_made_and_planned(rt: HostRuntime) -> Result<(), Fail> {
     let alloc = rt.alloc();
     for case in &CASES {
-        let first = made(alloc, &["make", "out", "--seed", case.seed], &[])?;
+        let mut desk = desk_of(alloc, &[])?;
+        let answer = made(alloc, &["make", "out", "--seed", case.seed], &mut desk)?;
+        assert!(rt; answer.reports(case.report), "{}", case.seed);
+        assert!(rt; is_named(&desk), "{}", case.seed);
+        assert!(rt; file_of(&desk, 2).starts_with(case.stock), "{}", case.seed);
         assert!(rt;
-            first.reports(case.report) && first.is_named(),
+            planned(alloc, &desk)?.reports(case.report),
             "{}",
             case.seed
         );
-        assert!(rt; first.desk.count() == 4);
-        assert!(rt;
-            first.desk.bytes(2).starts_with(case.stock),
-            "{}",
-            case.seed
-        );
-        assert!(rt; plans_the_same(alloc, &first)?, "{}", case.seed);
     }
     Ok(())
 }
@@ -149,44 +108,49 @@ fn seasons_are_made_and_planned(rt: HostRuntime) -> Result<(), Fail> {
 #[test]
 fn seasons_are_made_again(rt: HostRuntime) -> Result<(), Fail> {
     let alloc = rt.alloc();
-    let first = made(alloc, &["make", "out"], &[])?;
-    let second = made(alloc, &["make", "out", "--seed", "1"], &[])?;
-    assert!(rt; first.reports(CASES[0].report) && second.reports(CASES[0].report));
-    assert!(rt; first.desk.count() == 4 && second.desk.count() == 4);
+    let mut desk = desk_of(alloc, &[])?;
+    let mut other = desk_of(alloc, &[])?;
+    let answer = made(alloc, &["make", "out"], &mut desk)?;
+    let again = made(alloc, &["make", "out", "--seed", "1"], &mut other)?;
+    assert!(rt; answer.reports(CASES[0].report) && again.reports(CASES[0].report));
+    assert!(rt; is_named(&desk) && is_named(&other));
     for index in 0..4 {
-        assert!(rt;
-            first.desk.bytes(index) == second.desk.bytes(index),
-            "{index}"
-        );
+        assert!(rt; file_of(&desk, index) == file_of(&other, index), "{index}");
     }
     Ok(())
 }
 
-// Each file takes a call to be made and one to be written, but for demand.csv, which takes two to be written.
+// Each file takes a call to be made and one to be written, but for demand.csv, which takes two to be written. Of a file that
+// fails a front stands.
 #[test]
 fn desks_fail_while_seasons_are_made(rt: HostRuntime) -> Result<(), Fail> {
     let alloc = rt.alloc();
-    let whole = made(alloc, &QUICK, &[10])?;
-    assert!(rt; whole.reports(whole.out.bytes()) && whole.out.bytes().starts_with(b"season 24 "));
+    let mut whole = desk_of(alloc, &[10])?;
+    let answer = made(alloc, &QUICK, &mut whole)?;
+    assert!(rt; answer.status == Status::Ok && is_named(&whole));
     for (call, count, note) in [
-        (1, 0, "write fault: rules.json\n"),
-        (2, 1, "write fault: rules.json\n"),
-        (3, 1, "write fault: ladder.csv\n"),
-        (5, 2, "write fault: stock.csv\n"),
+        (1, 0, "write fault: rules.json"),
+        (2, 1, "write fault: rules.json"),
+        (3, 1, "write fault: ladder.csv"),
+        (5, 2, "write fault: stock.csv"),
+        (9, 4, "write fault: demand.csv"),
     ] {
-        let run = made(alloc, &QUICK, &[call])?;
-        assert!(rt; run.failed(count, note.as_bytes()), "{call}");
+        let mut desk = desk_of(alloc, &[call])?;
+        let answer = made(alloc, &QUICK, &mut desk)?;
+        assert!(rt; answer.notes(Status::WriteFault, note), "{call}");
+        assert!(rt; desk.count() == count, "{call}");
+        for index in 0..4 {
+            assert!(rt;
+                file_of(&whole, index).starts_with(file_of(&desk, index)),
+                "{call}"
+            );
+        }
+        assert!(rt; count < 4 || file_of(&desk, 3).len() == 65_536);
     }
-    // Of the file that failed a front stands.
-    let cut = made(alloc, &QUICK, &[9])?;
-    assert!(rt; cut.failed(4, b"write fault: demand.csv\n"));
-    assert!(rt; cut.desk.count() == 4 && whole.desk.count() == 4);
-    assert!(rt; cut.desk.bytes(2) == whole.desk.bytes(2));
-    assert!(rt; cut.desk.bytes(3).len() == 65_536);
-    assert!(rt; whole.desk.bytes(3).starts_with(cut.desk.bytes(3)));
     // The room ends in the midst of demand.csv.
-    let desk = MemoryDesk::new(alloc, 4, 1000, 65_536, Vec::new(alloc))?;
-    assert!(rt; made_on(alloc, &QUICK, desk)?.failed(4, b"write fault: demand.csv\n"));
+    let mut desk = MemoryDesk::new(alloc, 4, 1000, 65_536, Vec::new(alloc))?;
+    let answer = made(alloc, &QUICK, &mut desk)?;
+    assert!(rt; answer.notes(Status::WriteFault, "write fault: demand.csv") && desk.count() == 4);
     Ok(())
 }
 
@@ -194,27 +158,17 @@ fn desks_fail_while_seasons_are_made(rt: HostRuntime) -> Result<(), Fail> {
 fn made_seasons_stand_in_real_folders(rt: HostRuntime) -> Result<(), Fail> {
     let alloc = rt.alloc();
     fs::create_dir(&rt, "made")?;
-    let mut reports = Vec::new(alloc);
-    for job in ["make", "plan"] {
-        let words = words_of(alloc, &[job, "made", "--steps", "0", "--nodes", "0"])?;
-        let mut shelf = FileShelf::new(&rt);
-        let mut desk = FileDesk::new(&rt);
-        let mut out = MemorySink::new(alloc, 4096, 16, Vec::new(alloc))?;
-        let mut note = MemorySink::new(alloc, 256, 7, Vec::new(alloc))?;
-        let status = run(alloc, &words, &mut shelf, &mut desk, &mut out, &mut note);
-        assert!(rt; status == Status::Ok, "{job}");
-        reports.push(out)?;
-    }
-    assert!(rt; reports.len() == 2);
-    assert!(rt; reports[0].bytes() == reports[1].bytes());
-    // A folder that isn't there takes no files.
-    let words = words_of(alloc, &["make", "made/no", "--steps", "0", "--nodes", "0"])?;
     let mut shelf = FileShelf::new(&rt);
     let mut desk = FileDesk::new(&rt);
-    let mut out = MemorySink::new(alloc, 4096, 16, Vec::new(alloc))?;
-    let mut note = MemorySink::new(alloc, 256, 7, Vec::new(alloc))?;
-    let status = run(alloc, &words, &mut shelf, &mut desk, &mut out, &mut note);
-    assert!(rt; status == Status::WriteFault && out.bytes().is_empty());
-    assert!(rt; note.bytes() == b"write fault: rules.json\n".as_slice());
+    let words = ["make", "made", "--steps", "0", "--nodes", "0"];
+    let answer = run_over(alloc, &words, &mut shelf, &mut desk, NONE_FAILS)?;
+    assert!(rt; answer.status == Status::Ok);
+    let words = ["plan", "made", "--steps", "0", "--nodes", "0"];
+    let again = run_on(alloc, &words, &mut shelf, NONE_FAILS)?;
+    assert!(rt; again.reports(answer.out.bytes()));
+    // A folder that isn't there takes no files.
+    let words = ["make", "made/no", "--steps", "0", "--nodes", "0"];
+    let no_folder = run_over(alloc, &words, &mut shelf, &mut desk, NONE_FAILS)?;
+    assert!(rt; no_folder.notes(Status::WriteFault, "write fault: rules.json"));
     Ok(())
 }

@@ -1,5 +1,5 @@
 // Rules and calendars: which path is printed, or that there is none; and chains of many stores.
-use crate::cases::{Files, SMALLEST, asked_of, held, planned, run_on};
+use crate::cases::{Files, NONE_FAILS, SMALLEST, asked_of, held, planned, run_on};
 use crate::certs::certify;
 use crate::ending::Status;
 use clr_io::{MemoryDesk, MemoryShelf};
@@ -131,8 +131,7 @@ fn paths_obey(rt: HostRuntime) -> Result<(), Fail> {
         if lines.is_empty() {
             assert!(rt; answer.notes(Status::NoPath, "no path"), "{index}");
         } else {
-            assert!(rt; answer.status == Status::Ok, "{index}");
-            assert!(rt; answer.out.bytes().ends_with(lines.as_bytes()), "{index}");
+            assert!(rt; answer.ends_with(lines), "{index}");
         }
     }
     Ok(())
@@ -168,8 +167,7 @@ fn nodes_are_counted(rt: HostRuntime) -> Result<(), Fail> {
     for (nodes, lines) in NODES {
         let nodes = format!(in alloc; "{nodes}")?;
         let answer = asked_of(alloc, &["plan", "f", "--nodes", nodes.as_str()], files)?;
-        assert!(rt; answer.status == Status::Ok, "{nodes}");
-        assert!(rt; answer.out.bytes().ends_with(lines.as_bytes()), "{nodes}");
+        assert!(rt; answer.ends_with(lines), "{nodes}");
     }
     Ok(())
 }
@@ -276,10 +274,7 @@ fn chains_fit_their_cells(rt: HostRuntime) -> Result<(), Fail> {
             let lines = format!(in alloc;
                 "path 1 1 1 1\nprices 5.00 5.00 5.00 5.00\nrevenue {revenue} {revenue}\nbest yes\nbound {revenue} step 0\ngap 0.00000000\n"
             )?;
-            assert!(rt;
-                answer.out.bytes().ends_with(lines.as_bytes()),
-                "{stores} {first}"
-            );
+            assert!(rt; answer.ends_with(lines.as_str()), "{stores} {first}");
         }
     }
     Ok(())
@@ -321,16 +316,17 @@ const ORDINARY_CHECK: &[u8] =
 
 // The plan of the ordinary chain with a certificate, and then a check of it, report what they must.
 fn is_planned_and_checked(alloc: Global, files: Files<'_>) -> Result<bool, AllocError> {
-    let desk = MemoryDesk::new(alloc, 1, 4_000_000, 65_536, Vec::new(alloc))?;
+    let mut desk = MemoryDesk::new(alloc, 1, 4_000_000, 65_536, Vec::new(alloc))?;
+    let planned = certify(alloc, files, &mut desk, NONE_FAILS)?;
     let mut all = held(alloc, files, 0)?;
-    let planned = certify(alloc, files, desk, &[])?;
-    for index in 0..planned.desk.count() {
+    for index in 0..desk.count() {
         let name = String::from_str(alloc, "c")?;
-        all.push((name, planned.desk.bytes(index).to_vec(alloc)?))?;
+        all.push((name, desk.bytes(index).to_vec(alloc)?))?;
     }
     let mut shelf = MemoryShelf::new(all, 65_536, Vec::new(alloc));
-    let checked = run_on(alloc, &["check", "f", "--cert", "c"], &mut shelf, &[])?;
-    Ok(planned.out.bytes() == ORDINARY_PLAN && checked.reports(ORDINARY_CHECK))
+    let words = ["check", "f", "--cert", "c"];
+    let checked = run_on(alloc, &words, &mut shelf, NONE_FAILS)?;
+    Ok(planned.reports(ORDINARY_PLAN) && checked.reports(ORDINARY_CHECK))
 }
 
 // In each store the first price sells 1.5 units in each of 4 weeks, and 35.00 sells 1.5 in each of 8, which earn 45.00 and 30.00

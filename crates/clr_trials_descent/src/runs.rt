@@ -112,13 +112,17 @@ fn wrong_runs(alloc: Global, season: &Season, runs: &[Run]) -> Result<u32, Alloc
     Ok(wrong)
 }
 
+// Whether the runs of a case give their bounds and steps.
+fn is_run(alloc: Global, case: &Case) -> Result<bool, Fail> {
+    let season = season(alloc, &case.files)?;
+    let wrong = wrong_runs(alloc, &season, case.runs)?;
+    Ok(wrong == 0)
+}
+
 #[test]
 fn runs_find_their_least_bound(rt: HostRuntime) -> Result<(), Fail> {
-    let alloc = rt.alloc();
     for (index, case) in CASES.iter().enumerate() {
-        let season = season(alloc, &case.files)?;
-        let wrong = wrong_runs(alloc, &season, case.runs)?;
-        assert!(rt; wrong == 0, "{index}: {wrong}");
+        assert!(rt; is_run(rt.alloc(), case)?, "{index}");
     }
     Ok(())
 }

@@ -187,17 +187,18 @@ fn opening(
     Ok(Some((joint.low(), joint.top(), first)))
 }
 
+// Whether the table of a season opens with the values and the choice of its case.
+fn opens_with(alloc: Global, case: &Case) -> Result<bool, Fail> {
+    let season = season(alloc, "exact", &case.files)?;
+    let live = Live::build(alloc, season.rules())?;
+    let opening = opening(alloc, &season, &live, case.stocks)?;
+    Ok(opening == Some((case.low, case.top, Some(case.first))))
+}
+
 #[test]
 fn small_chains_earn_their_exact_values(rt: HostRuntime) -> Result<(), Fail> {
-    let alloc = rt.alloc();
     for (index, case) in CASES.iter().enumerate() {
-        let season = season(alloc, "exact", &case.files)?;
-        let live = Live::build(alloc, season.rules())?;
-        let opening = opening(alloc, &season, &live, case.stocks)?;
-        assert!(rt;
-            opening == Some((case.low, case.top, Some(case.first))),
-            "{index}"
-        );
+        assert!(rt; opens_with(rt.alloc(), case)?, "{index}");
     }
     Ok(())
 }

@@ -1,7 +1,13 @@
 // The values and the choices of a small season at each live summary and stock, worked by hand.
+ghost use Rattle.clr_rules.specs.LiveSummaries.{live_pairs};
+ghost use Rattle.clr_season.specs.Season.{IsSeason};
+ghost use Rattle.std.specs.Prelude.{◌≡◌};
+
 use crate::reads::{choice_at, table, values_at};
 use crate::seasons::{Files, season};
 use clr_rules::{Live, Summary};
+use clr_season::Season;
+use std::alloc::{AllocError, Global};
 use std::test::Fail;
 
 // On rung 1 nothing or one unit is asked for in each week; on rung 2 nothing in week 1, and two in week 2.
@@ -46,21 +52,29 @@ const PLACES: [(u32, Summary, u32, Option<u32>, i64); 15] = [
     (0, START, 2, Some(1), 1_150_000_000),
 ];
 
-#[test]
-fn each_place_has_its_values_and_choice(rt: HostRuntime) -> Result<(), Fail> {
-    let alloc = rt.alloc();
-    let season = season(alloc, "places", &STEADY_OR_LATE)?;
-    let live = Live::build(alloc, season.rules())?;
-    let Some(joint) = table(alloc, &season, &live)? else {
-        assert!(rt; false);
-        return Ok(());
+// The first place that has other values or another choice, by its index; nothing where none has.
+fn wrong_place(alloc: Global, season: &Season, live: &Live) -> Result<Option<usize>, AllocError>
+    requires live { live.now ≡ live_pairs season.now.rules }
+    requires facts { IsSeason season.now }
+{
+    let Some(joint) = table(alloc, season, live)? else {
+        return Ok(Some(0));
     };
     for (index, (done, s, stock, rung, value)) in PLACES.iter().enumerate() {
         let stocks = [*stock];
-        let choice = choice_at(&season, &live, &joint, *done, *s, &stocks);
-        assert!(rt; choice == *rung, "{index}");
-        let values = values_at(&season, &live, &joint, *done, *s, &stocks);
-        assert!(rt; values == Some((*value, *value)), "{index}");
+        if choice_at(season, live, &joint, *done, *s, &stocks) != *rung
+            || values_at(season, live, &joint, *done, *s, &stocks) != Some((*value, *value))
+        {
+            return Ok(Some(index));
+        }
     }
+    Ok(None)
+}
+
+#[test]
+fn each_place_has_its_values_and_choice(rt: HostRuntime) -> Result<(), Fail> {
+    let season = season(rt.alloc(), "places", &STEADY_OR_LATE)?;
+    let live = Live::build(rt.alloc(), season.rules())?;
+    assert_eq!(rt; wrong_place(rt.alloc(), &season, &live)?, None);
     Ok(())
 }

@@ -53,22 +53,28 @@ fn season_of(alloc: Global, seed: u32) -> Result<Season, Fail>
     Ok(season)
 }
 
+// Whether a season has the sizes of the made ones, and its first and last store these units.
+fn is_made(season: &Season, first: u32, last: u32) -> bool {
+    season.stores() == 24
+        && (season.weeks(), season.rungs()) == (12, 6)
+        && (season.base(), season.top()) == (100, 5)
+        && (season.stock(1), season.stock(24)) == (first, last)
+}
+
+// Whether the files of a seed read to its season, of which some path obeys.
+fn is_read(alloc: Global, case: &Case) -> Result<bool, Fail> {
+    if case.seed > 999_999_999 {
+        return Ok(false);
+    }
+    let season = season_of(alloc, case.seed)?;
+    let live = Live::build(alloc, season.rules())?;
+    Ok(live.any() && is_made(&season, case.first, case.last))
+}
+
 #[test]
 fn seeds_read_to_seasons(rt: HostRuntime) -> Result<(), Fail> {
-    let alloc = rt.alloc();
     for (index, case) in CASES.iter().enumerate() {
-        let seed = case.seed;
-        assert!(rt; seed <= 999_999_999, "{index}");
-        let season = season_of(alloc, seed)?;
-        assert_eq!(rt; season.stores(), 24);
-        assert_eq!(rt; season.weeks(), 12);
-        assert_eq!(rt; season.rungs(), 6);
-        assert_eq!(rt; season.base(), 100);
-        assert_eq!(rt; season.top(), 5);
-        assert_eq!(rt; season.stock(1), case.first);
-        assert_eq!(rt; season.stock(24), case.last);
-        let live = Live::build(alloc, season.rules())?;
-        assert!(rt; live.any(), "{index}");
+        assert!(rt; is_read(rt.alloc(), case)?, "{index}");
     }
     Ok(())
 }

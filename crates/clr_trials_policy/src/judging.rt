@@ -1,9 +1,7 @@
 // What policies earn, and what stands against them. Values are in units, of which a cent has 10^6.
-ghost use Rattle.std.specs.Prelude.{◌≤◌, length};
-
 use crate::seasons::{RELABELLED, STEADY_OR_LATE, Texts, season_of, season_of_many};
 use clr_num::{Down, Up};
-use clr_policy::{JudgeError, PolicyError, judge, objects, read_policy};
+use clr_policy::{JudgeError, judge, objects, read_policy};
 use clr_rules::Rule;
 use clr_season::Season;
 use std::alloc::Global;
@@ -147,39 +145,39 @@ const CASES: [Case; 9] = [
     },
 ];
 
-// The number of a policy's rungs and tests, and its value rounded down and rounded up.
-#[derive(Drop)]
-struct Verdict {
-    objects: u64,
-    low: Result<i128, JudgeError>,
-    high: Result<i128, JudgeError>,
+// Whether a policy file has so many rungs and tests, and these values.
+fn is_judged(
+    alloc: Global,
+    season: &Season,
+    text: &[u8],
+    count: u64,
+    low: &Result<i128, JudgeError>,
+    high: &Result<i128, JudgeError>,
+) -> bool {
+    if text.len() > 1000 {
+        return false;
+    }
+    match read_policy(alloc, season, text) {
+        Ok(policy) => {
+            objects(&policy) == count
+                && judge::<Down>(alloc, season, &policy) == *low
+                && judge::<Up>(alloc, season, &policy) == *high
+        }
+        Err(_) => false,
+    }
 }
 
-fn judged(alloc: Global, season: &Season, text: &[u8]) -> Result<Verdict, PolicyError>
-    requires { length text.now ≤ 33554432 }
-{
-    let policy = read_policy(alloc, season, text)?;
-    Ok(Verdict {
-        objects: objects(&policy),
-        low: judge::<Down>(alloc, season, &policy),
-        high: judge::<Up>(alloc, season, &policy),
-    })
+// Whether the policy of a case is judged as it must.
+fn is_worth(alloc: Global, case: &Case) -> Result<bool, Fail> {
+    let season = season_of(alloc, &case.season)?;
+    let text = case.policy.as_bytes();
+    Ok(is_judged(alloc, &season, text, case.objects, &case.low, &case.high))
 }
 
 #[test]
 fn policies_are_worth_their_values(rt: HostRuntime) -> Result<(), Fail> {
-    let alloc = rt.alloc();
     for (index, case) in CASES.iter().enumerate() {
-        let season = season_of(alloc, &case.season)?;
-        let text = case.policy.as_bytes();
-        assert!(rt; text.len() < 1000, "{index}");
-        let Ok(judged) = judged(alloc, &season, text) else {
-            assert!(rt; false, "{index}");
-            continue;
-        };
-        assert!(rt; judged.objects == case.objects, "{index}");
-        assert!(rt; judged.low == case.low, "{index}");
-        assert!(rt; judged.high == case.high, "{index}");
+        assert!(rt; is_worth(rt.alloc(), case)?, "{index}");
     }
     Ok(())
 }
@@ -187,18 +185,11 @@ fn policies_are_worth_their_values(rt: HostRuntime) -> Result<(), Fail> {
 // Four objects times 2000^16, which is held at 10^18.
 #[test]
 fn sizes_are_held(rt: HostRuntime) -> Result<(), Fail> {
-    let alloc = rt.alloc();
-    let season = season_of_many(alloc)?;
+    let season = season_of_many(rt.alloc())?;
     let text = b"{\"rung\":1,\"then\":{\"rung\":1,\"then\":{\"rung\":1,\"then\":{\"rung\":1}}}}";
     let held = Err(JudgeError::Size {
         found: 1_000_000_000_000_000_000,
     });
-    let Ok(judged) = judged(alloc, &season, text) else {
-        assert!(rt; false);
-        return Ok(());
-    };
-    assert!(rt; judged.objects == 4);
-    assert!(rt; judged.low == held);
-    assert!(rt; judged.high == held);
+    assert!(rt; is_judged(rt.alloc(), &season, text, 4, &held, &held));
     Ok(())
 }
