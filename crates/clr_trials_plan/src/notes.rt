@@ -54,9 +54,9 @@ fn writes_each_note(rt: HostRuntime) {
         ),
         (Cause::Memory, "memory\n"),
     ];
-    for (cause, want) in cases {
+    for (cause, want) in &cases {
         let mut out = [0; 256];
-        let end = note_text(&cause, &mut out);
+        let end = note_text(cause, &mut out);
         assert_eq!(rt; &out[..end], want.as_bytes(), "{want}");
     }
 }
@@ -207,12 +207,12 @@ fn tells_why_a_file_is_refused(rt: HostRuntime) {
             "refused: demand.csv store 64 week 52 rung 12 total 201000000\n",
         ),
     ];
-    for (doc, row, column, why, want) in cases {
+    for (doc, row, column, why, want) in &cases {
         let cause = Cause::Refused {
-            doc,
-            row,
-            column,
-            why,
+            doc: *doc,
+            row: *row,
+            column: *column,
+            why: *why,
         };
         let mut out = [0; 256];
         let end = note_text(&cause, &mut out);

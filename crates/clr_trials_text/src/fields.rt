@@ -3,45 +3,51 @@ use clr_text::{Names, Table, Why, cut, is_name, read_money, read_u64, refused, r
 use std::alloc::Global;
 use std::test::Fail;
 
+// Fields, and what is left of them.
+const CUT: [(&str, &str); 7] = [
+    ("", ""),
+    ("a", "a"),
+    (" a b\t", "a b"),
+    ("\t \t", ""),
+    ("\ta,b ", "a,b"),
+    ("\na\r", "\na\r"),
+    ("\u{a0}a", "\u{a0}a"),
+];
+
 #[test]
 fn fields_are_cut(rt: HostRuntime) {
-    for (field, want) in [
-        ("", ""),
-        ("a", "a"),
-        (" a b\t", "a b"),
-        ("\t \t", ""),
-        ("\ta,b ", "a,b"),
-        ("\na\r", "\na\r"),
-        ("\u{a0}a", "\u{a0}a"),
-    ] {
+    for (field, want) in &CUT {
         assert!(rt; cut(field.as_bytes()) == want.as_bytes(), "at {field}");
     }
 }
 
+// Fields, and the whole numbers that they read to.
+const WHOLE: [(&str, Option<u64>); 19] = [
+    ("0", Some(0)),
+    ("7", Some(7)),
+    ("00", Some(0)),
+    ("007", Some(7)),
+    (" \t12\t ", Some(12)),
+    ("0000000000000000000000000000000000000042", Some(42)),
+    ("1111111111111111111111111111111111111111", None),
+    ("9223372036854775807", Some(9_223_372_036_854_775_807)),
+    ("9223372036854775808", None),
+    ("18446744073709551617", None),
+    ("", None),
+    (" ", None),
+    ("+1", None),
+    ("-1", None),
+    ("1 2", None),
+    ("1.0", None),
+    ("0x1", None),
+    ("1_000", None),
+    ("\u{661}", None),
+];
+
 #[test]
 fn whole_numbers(rt: HostRuntime) {
-    for (field, want) in [
-        ("0", Some(0)),
-        ("7", Some(7)),
-        ("00", Some(0)),
-        ("007", Some(7)),
-        (" \t12\t ", Some(12)),
-        ("0000000000000000000000000000000000000042", Some(42)),
-        ("1111111111111111111111111111111111111111", None),
-        ("9223372036854775807", Some(9_223_372_036_854_775_807)),
-        ("9223372036854775808", None),
-        ("18446744073709551617", None),
-        ("", None),
-        (" ", None),
-        ("+1", None),
-        ("-1", None),
-        ("1 2", None),
-        ("1.0", None),
-        ("0x1", None),
-        ("1_000", None),
-        ("\u{661}", None),
-    ] {
-        assert_eq!(rt; read_u64(field.as_bytes()), want, "at {field}");
+    for (field, want) in &WHOLE {
+        assert_eq!(rt; read_u64(field.as_bytes()), *want, "at {field}");
     }
 }
 
@@ -72,8 +78,8 @@ const MONEY: [(&str, Option<u64>); 22] = [
 
 #[test]
 fn money(rt: HostRuntime) {
-    for (field, want) in MONEY {
-        assert_eq!(rt; read_money(field.as_bytes()), want, "at {field}");
+    for (field, want) in &MONEY {
+        assert_eq!(rt; read_money(field.as_bytes()), *want, "at {field}");
     }
 }
 
@@ -90,22 +96,25 @@ fn shown(alloc: Global, table: &Table) -> Result<Vec<u8>, Fail> {
     Ok(text)
 }
 
+// Files, and what is shown of their tables.
+const TABLES: [(&str, &str); 12] = [
+    ("a,b\n1,2\n", "1|2|/"),
+    ("\u{feff}a,b\n1,2\n", "1|2|/"),
+    ("a,b\r\n1,2\r\n3,4\r\n", "1|2|/3|4|/"),
+    ("a,b\r1,2\r", "1|2|/"),
+    (" a\t,\tb \n 1 ,\t2\n", "1|2|/"),
+    ("\"a\",\"b\"\n\" 1 \",\"x,\"\"y\"\"\"\n", "1|x,\"y\"|/"),
+    ("\n\r\na,b\n\n1,2\n\n\n3,4", "1|2|/3|4|/"),
+    ("a,b\n1,\n,\n", "1||/||/"),
+    ("a,b\n1,\"2", "1|2|/"),
+    ("a,b\n1,\"2\n3,4\n", "1|2\n3,4\n|/"),
+    ("a,b", ""),
+    ("a,b\n\n", ""),
+];
+
 #[test]
 fn tables(rt: HostRuntime) -> Result<(), Fail> {
-    for (file, want) in [
-        ("a,b\n1,2\n", "1|2|/"),
-        ("\u{feff}a,b\n1,2\n", "1|2|/"),
-        ("a,b\r\n1,2\r\n3,4\r\n", "1|2|/3|4|/"),
-        ("a,b\r1,2\r", "1|2|/"),
-        (" a\t,\tb \n 1 ,\t2\n", "1|2|/"),
-        ("\"a\",\"b\"\n\" 1 \",\"x,\"\"y\"\"\"\n", "1|x,\"y\"|/"),
-        ("\n\r\na,b\n\n1,2\n\n\n3,4", "1|2|/3|4|/"),
-        ("a,b\n1,\n,\n", "1||/||/"),
-        ("a,b\n1,\"2", "1|2|/"),
-        ("a,b\n1,\"2\n3,4\n", "1|2\n3,4\n|/"),
-        ("a,b", ""),
-        ("a,b\n\n", ""),
-    ] {
+    for (file, want) in &TABLES {
         let table = rows(rt.alloc(), file.as_bytes(), &["a", "b"])?;
         let text = shown(rt.alloc(), &table)?;
         assert!(rt; text.as_slice() == want.as_bytes(), "at {file}");
@@ -113,24 +122,27 @@ fn tables(rt: HostRuntime) -> Result<(), Fail> {
     Ok(())
 }
 
+// Files, and at which row and why they are refused.
+const REFUSED: [(&str, u32, Why); 12] = [
+    ("", 0, Why::Header),
+    ("\n\n", 0, Why::Header),
+    ("\u{feff}", 0, Why::Header),
+    ("\u{feff}\u{feff}a,b\n", 0, Why::Header),
+    ("b,a\n1,4\n", 0, Why::Header),
+    ("A,b\n1,2\n", 0, Why::Header),
+    ("a\n1,2,3\n", 0, Why::Header),
+    ("a,b,c\n", 0, Why::Header),
+    ("1,2\n", 0, Why::Header),
+    ("a,b\n1\n", 1, Why::Fields),
+    ("a,b\n1,2\n\n1,2,3\n1\n", 2, Why::Fields),
+    ("a,b\n1,2\n \n", 2, Why::Fields),
+];
+
 #[test]
 fn refused_tables(rt: HostRuntime) {
-    for (file, row, why) in [
-        ("", 0, Why::Header),
-        ("\n\n", 0, Why::Header),
-        ("\u{feff}", 0, Why::Header),
-        ("\u{feff}\u{feff}a,b\n", 0, Why::Header),
-        ("b,a\n1,4\n", 0, Why::Header),
-        ("A,b\n1,2\n", 0, Why::Header),
-        ("a\n1,2,3\n", 0, Why::Header),
-        ("a,b,c\n", 0, Why::Header),
-        ("1,2\n", 0, Why::Header),
-        ("a,b\n1\n", 1, Why::Fields),
-        ("a,b\n1,2\n\n1,2,3\n1\n", 2, Why::Fields),
-        ("a,b\n1,2\n \n", 2, Why::Fields),
-    ] {
+    for (file, row, why) in &REFUSED {
         let refusal = rows(rt.alloc(), file.as_bytes(), &["a", "b"]).err();
-        assert_eq!(rt; refusal, Some(refused(row, 0, why)), "at {file}");
+        assert_eq!(rt; refusal, Some(refused(*row, 0, *why)), "at {file}");
     }
 }
 
@@ -149,7 +161,8 @@ const RANGES: [(u32, u64, u64, Result<u64, Why>, Result<u64, Why>); 7] = [
 fn fields_in_their_range(rt: HostRuntime) -> Result<(), Fail> {
     let table = rows(rt.alloc(), b"a,b,c\n7,1.50,x\n", &["a", "b", "c"])?;
     assert_eq!(rt; table.len(), 1);
-    for (column, low, high, number, money) in RANGES {
+    for (column, low, high, number, money) in &RANGES {
+        let (column, low, high) = (*column, *low, *high);
         assert!(rt; column >= 1);
         let number = number.map_err(|why| refused(1, column, why));
         assert_eq!(rt;
@@ -167,54 +180,68 @@ fn fields_in_their_range(rt: HostRuntime) -> Result<(), Fail> {
     Ok(())
 }
 
+// Files, their number of rows, and why a number other than 1 or 2 is refused.
+const COUNTS: [(&str, u32, Option<Why>); 4] = [
+    ("a\n", 0, Some(Why::Count { found: 0 })),
+    ("a\n1\n", 1, None),
+    ("a\n1\n2\n", 2, None),
+    ("a\n1\n2\n3\n", 3, Some(Why::Count { found: 3 })),
+];
+
 #[test]
 fn counts(rt: HostRuntime) -> Result<(), Fail> {
-    for (file, found, refusal) in [
-        ("a\n", 0, Some(Why::Count { found: 0 })),
-        ("a\n1\n", 1, None),
-        ("a\n1\n2\n", 2, None),
-        ("a\n1\n2\n3\n", 3, Some(Why::Count { found: 3 })),
-    ] {
+    for (file, found, refusal) in &COUNTS {
         let table = rows(rt.alloc(), file.as_bytes(), &["a"])?;
-        assert_eq!(rt; table.len(), found, "at {file}");
+        assert_eq!(rt; table.len(), *found, "at {file}");
         let want = refusal.map(|why| refused(0, 0, why));
         assert_eq!(rt; table.counted(2).err(), want, "at {file}");
     }
     Ok(())
 }
 
+// Names, and whether a store may have them. The last two have 64 bytes and 65.
+const NAMES: [(&str, bool); 9] = [
+    ("a", true),
+    ("", false),
+    ("a b", true),
+    ("a\tb", false),
+    ("a\u{1f}", false),
+    ("\u{7f}", true),
+    ("\u{e9}", true),
+    (
+        "0123456789abcdef0123456789abcdef0123456789abcdef0123456789abcdef",
+        true,
+    ),
+    (
+        "0123456789abcdef0123456789abcdef0123456789abcdef0123456789abcdefx",
+        false,
+    ),
+];
+
 #[test]
 fn names_of_stores(rt: HostRuntime) {
-    let long = "0123456789abcdef0123456789abcdef0123456789abcdef0123456789abcdefx";
-    for (name, want) in [
-        ("a", true),
-        ("", false),
-        ("a b", true),
-        ("a\tb", false),
-        ("a\u{1f}", false),
-        ("\u{7f}", true),
-        ("\u{e9}", true),
-        (&long[..64], true),
-        (long, false),
-    ] {
-        assert_eq!(rt; is_name(name.as_bytes()), want, "at {name}");
+    for (name, want) in &NAMES {
+        assert_eq!(rt; is_name(name.as_bytes()), *want, "at {name}");
     }
     assert!(rt; !is_name(b"a\xff"));
     assert!(rt; !is_name(b"\xc3"));
 }
 
+// Names in their order, and the number of each that is new.
+const PUSHED: [(&str, Option<u32>); 5] = [
+    ("b", Some(1)),
+    ("a", Some(2)),
+    ("b", None),
+    ("B", Some(3)),
+    ("a", None),
+];
+
 #[test]
 fn names_in_order(rt: HostRuntime) -> Result<(), Fail> {
     let mut names = Names::new(rt.alloc());
-    for (name, number) in [
-        ("b", Some(1)),
-        ("a", Some(2)),
-        ("b", None),
-        ("B", Some(3)),
-        ("a", None),
-    ] {
+    for (name, number) in &PUSHED {
         assert!(rt; names.len() < 64);
-        assert_eq!(rt; names.push(name.as_bytes())?, number, "at {name}");
+        assert_eq!(rt; names.push(name.as_bytes())?, *number, "at {name}");
     }
     assert_eq!(rt; names.len(), 3);
     assert_eq!(rt; names.get(2), "a");

@@ -28,7 +28,7 @@ const NO_OBJECTS: [&str; 16] = [
 #[test]
 fn no_objects(rt: HostRuntime) {
     let want = Some(refused(0, 0, Why::Json));
-    for file in NO_OBJECTS {
+    for file in &NO_OBJECTS {
         assert!(rt; file.len() <= 100);
         assert_eq!(rt;
             read_limits(rt.alloc(), file.as_bytes()).err(),
@@ -127,17 +127,17 @@ const MORE_FIELDS: [(&str, u32, Why); 17] = [
 
 #[test]
 fn refused_limits(rt: HostRuntime) -> Result<(), Fail> {
-    for (members, column, why) in FIELDS {
+    for (members, column, why) in &FIELDS {
         let file = format!(in rt.alloc(); "{{{members}}}")?;
         assert!(rt; file.len() <= 100);
         let found = read_limits(rt.alloc(), file.as_bytes()).err();
-        assert_eq!(rt; found, Some(refused(0, column, why)), "at {members}");
+        assert_eq!(rt; found, Some(refused(0, *column, *why)), "at {members}");
     }
-    for (members, column, why) in MORE_FIELDS {
+    for (members, column, why) in &MORE_FIELDS {
         let file = format!(in rt.alloc(); "{{\"weeks\":1,\"base\":4,{members}}}")?;
         assert!(rt; file.len() <= 100);
         let found = read_limits(rt.alloc(), file.as_bytes()).err();
-        assert_eq!(rt; found, Some(refused(0, column, why)), "at {members}");
+        assert_eq!(rt; found, Some(refused(0, *column, *why)), "at {members}");
     }
     Ok(())
 }
@@ -173,33 +173,36 @@ const GREATEST: Limits = Limits {
     calendar: true,
 };
 
+// Files, and the limits that they read to.
+const LIMITS: [(&str, Limits); 7] = [
+    ("{\"weeks\":1,\"base\":4}", PLAIN),
+    ("\u{feff} {\r\n\t\"base\" : 4 , \"weeks\" : 1 }\n", PLAIN),
+    ("{\"weeks\":53,\"base\":4,\"weeks\":1}", PLAIN),
+    ("{\"w\\u0065eks\":1,\"base\":4}", PLAIN),
+    (
+        "{\"weeks\":1,\"base\":4,\"version\":2}",
+        Limits {
+            version: 2,
+            ..PLAIN
+        },
+    ),
+    (
+        "{\"version\":1,\"weeks\":1,\"base\":1,\"markdowns\":0,\"spacing\":1,\"first_cut\":0,\"calendar\":false}",
+        LEAST,
+    ),
+    (
+        "{\"calendar\":true,\"first_cut\":100,\"spacing\":12,\"markdowns\":12,\"base\":1000000,\"weeks\":52,\"version\":3}",
+        GREATEST,
+    ),
+];
+
 #[test]
 fn limits(rt: HostRuntime) {
-    for (file, want) in [
-        ("{\"weeks\":1,\"base\":4}", PLAIN),
-        ("\u{feff} {\r\n\t\"base\" : 4 , \"weeks\" : 1 }\n", PLAIN),
-        ("{\"weeks\":53,\"base\":4,\"weeks\":1}", PLAIN),
-        ("{\"w\\u0065eks\":1,\"base\":4}", PLAIN),
-        (
-            "{\"weeks\":1,\"base\":4,\"version\":2}",
-            Limits {
-                version: 2,
-                ..PLAIN
-            },
-        ),
-        (
-            "{\"version\":1,\"weeks\":1,\"base\":1,\"markdowns\":0,\"spacing\":1,\"first_cut\":0,\"calendar\":false}",
-            LEAST,
-        ),
-        (
-            "{\"calendar\":true,\"first_cut\":100,\"spacing\":12,\"markdowns\":12,\"base\":1000000,\"weeks\":52,\"version\":3}",
-            GREATEST,
-        ),
-    ] {
+    for (file, want) in &LIMITS {
         assert!(rt; file.len() <= 200);
         assert_eq!(rt;
             read_limits(rt.alloc(), file.as_bytes()).ok(),
-            Some(want),
+            Some(*want),
             "at {file}"
         );
     }
@@ -253,12 +256,12 @@ const CALENDARS: [(&str, u32, u32, Why); 27] = [
 
 #[test]
 fn refused_calendars(rt: HostRuntime) -> Result<(), Fail> {
-    for (text, row, column, why) in CALENDARS {
+    for (text, row, column, why) in &CALENDARS {
         let file = format!(in rt.alloc(); "week,from,to,frozen\n{text}")?;
         let bytes = file.as_bytes();
         assert!(rt; bytes.len() <= 33_554_432);
         let refusal = read_calendar(rt.alloc(), bytes, 4).err();
-        assert_eq!(rt; refusal, Some(refused(row, column, why)), "at {text}");
+        assert_eq!(rt; refusal, Some(refused(*row, *column, *why)), "at {text}");
     }
     for file in [
         "",
@@ -284,26 +287,29 @@ fn shown(alloc: Global, calendar: &Calendar) -> Result<String, Fail> {
     Ok(text)
 }
 
+// Calendar files for three weeks, and what is shown of them.
+const READ: [(&str, &str); 6] = [
+    ("week,from,to,frozen", "1-12 1-12 1-12 "),
+    ("week,from,to,frozen\n\n", "1-12 1-12 1-12 "),
+    ("week,from,to,frozen\n2,3,5,1\n", "1-12 3-5* 1-12 "),
+    (
+        "week,from,to,frozen\n3,1,1,0\n1,12,12,1\n2,4,4,0\n",
+        "12-12* 4-4 1-1 ",
+    ),
+    (
+        "\u{feff} week ,\"from\",to\t,frozen\r\n\r\n\" 3\" , 02,\"11\" ,1\r\n",
+        "1-12 1-12 2-11* ",
+    ),
+    ("week,from,to,frozen\n1,1,12,0\n", "1-12 1-12 1-12 "),
+];
+
 #[test]
 fn calendars(rt: HostRuntime) -> Result<(), Fail> {
-    for (file, want) in [
-        ("week,from,to,frozen", "1-12 1-12 1-12 "),
-        ("week,from,to,frozen\n\n", "1-12 1-12 1-12 "),
-        ("week,from,to,frozen\n2,3,5,1\n", "1-12 3-5* 1-12 "),
-        (
-            "week,from,to,frozen\n3,1,1,0\n1,12,12,1\n2,4,4,0\n",
-            "12-12* 4-4 1-1 ",
-        ),
-        (
-            "\u{feff} week ,\"from\",to\t,frozen\r\n\r\n\" 3\" , 02,\"11\" ,1\r\n",
-            "1-12 1-12 2-11* ",
-        ),
-        ("week,from,to,frozen\n1,1,12,0\n", "1-12 1-12 1-12 "),
-    ] {
+    for (file, want) in &READ {
         assert!(rt; file.len() <= 100);
         let calendar = read_calendar(rt.alloc(), file.as_bytes(), 3)?;
         let text = shown(rt.alloc(), &calendar)?;
-        assert_eq!(rt; text.as_str(), want, "at {file}");
+        assert_eq!(rt; text.as_str(), *want, "at {file}");
     }
     Ok(())
 }

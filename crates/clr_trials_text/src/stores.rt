@@ -35,12 +35,12 @@ const LADDERS: [(&str, u32, u32, Why); 19] = [
 
 #[test]
 fn refused_ladders(rt: HostRuntime) -> Result<(), Fail> {
-    for (text, row, column, why) in LADDERS {
+    for (text, row, column, why) in &LADDERS {
         let file = format!(in rt.alloc(); "rung,price\n{text}")?;
         let bytes = file.as_bytes();
         assert!(rt; bytes.len() <= 33_554_432);
         let refusal = read_ladder(rt.alloc(), bytes).err();
-        assert_eq!(rt; refusal, Some(refused(row, column, why)), "at {text}");
+        assert_eq!(rt; refusal, Some(refused(*row, *column, *why)), "at {text}");
     }
     Ok(())
 }
@@ -89,12 +89,12 @@ const STOCKS: [(&str, u32, u32, Why); 16] = [
 
 #[test]
 fn refused_stocks(rt: HostRuntime) -> Result<(), Fail> {
-    for (text, row, column, why) in STOCKS {
+    for (text, row, column, why) in &STOCKS {
         let file = format!(in rt.alloc(); "store,units,salvage\n{text}")?;
         let bytes = file.as_bytes();
         assert!(rt; bytes.len() <= 33_554_432);
         let refusal = read_stock(rt.alloc(), bytes, false).err();
-        assert_eq!(rt; refusal, Some(refused(row, column, why)), "at {text}");
+        assert_eq!(rt; refusal, Some(refused(*row, *column, *why)), "at {text}");
     }
     let strange = read_stock(rt.alloc(), b"store,units,salvage\na\xff,1,2\n", false);
     assert_eq!(rt; strange.err(), Some(refused(1, 1, Why::Name)));
@@ -156,9 +156,9 @@ const RELABELS: [(&str, u32, u32, Why); 6] = [
 
 #[test]
 fn relabelling(rt: HostRuntime) -> Result<(), Fail> {
-    for (file, row, column, why) in RELABELS {
+    for (file, row, column, why) in &RELABELS {
         let refusal = read_stock(rt.alloc(), file.as_bytes(), true).err();
-        assert_eq!(rt; refusal, Some(refused(row, column, why)), "at {file}");
+        assert_eq!(rt; refusal, Some(refused(*row, *column, *why)), "at {file}");
     }
     Ok(())
 }

@@ -41,14 +41,15 @@ fn total(store: u32, week: u32, rung: u32, found: u64) -> FileError {
 #[test]
 fn headers_are_refused(rt: HostRuntime) -> Result<(), Fail> {
     let names = two_stores(&rt, rt.alloc())?;
-    for text in [
+    let cases = [
         "",
         "a,1,1,0,4\n",
         "store,week,rung,weight,units\n",
         "store,week,rung,units\n",
         "store,week,rung,units,weight,more\n",
         "Store,week,rung,units,weight\n",
-    ] {
+    ];
+    for text in &cases {
         assert!(rt; text.len() <= 100);
         let error = read_demand(rt.alloc(), text.as_bytes(), &names, 1, 1, 4, false).err();
         assert_eq!(rt; error, Some(refused(0, 0, Why::Header)), "{text}");
@@ -59,7 +60,7 @@ fn headers_are_refused(rt: HostRuntime) -> Result<(), Fail> {
 #[test]
 fn rows_are_refused(rt: HostRuntime) -> Result<(), Fail> {
     let names = two_stores(&rt, rt.alloc())?;
-    for (rows, error) in [
+    let cases = [
         ("a,1,1,0\n", refused(1, 0, Why::Fields)),
         ("c,9,1,0,4\na,1,1\n", refused(2, 0, Why::Fields)),
         ("c,9,9,999,9\n", refused(1, 1, Why::Unknown)),
@@ -88,11 +89,12 @@ fn rows_are_refused(rt: HostRuntime) -> Result<(), Fail> {
         ("a,1,1,0,4\n", total(2, 1, 1, 0)),
         ("b,1,1,0,3\na,1,1,0,3\n", total(1, 1, 1, 3)),
         ("a,1,1,0,3\na,1,1,1,2\n", total(1, 1, 1, 5)),
-    ] {
+    ];
+    for (rows, error) in &cases {
         let text = format!(in rt.alloc(); "{HEADER}{rows}")?;
         assert!(rt; text.len() <= 200);
         let found = read_demand(rt.alloc(), text.as_bytes(), &names, 1, 1, 4, false).err();
-        assert_eq!(rt; found, Some(error), "{rows}");
+        assert_eq!(rt; found, Some(*error), "{rows}");
     }
     Ok(())
 }
@@ -100,7 +102,7 @@ fn rows_are_refused(rt: HostRuntime) -> Result<(), Fail> {
 #[test]
 fn totals_are_judged_in_order(rt: HostRuntime) -> Result<(), Fail> {
     let names = two_stores(&rt, rt.alloc())?;
-    for (rows, error) in [
+    let cases = [
         (
             "a,1,1,0,1\na,1,2,0,1\na,2,1,0,1\nb,1,2,0,1\nb,2,1,0,1\nb,2,2,0,1\n",
             total(1, 2, 2, 0),
@@ -113,11 +115,12 @@ fn totals_are_judged_in_order(rt: HostRuntime) -> Result<(), Fail> {
             "a,1,1,0,1\na,1,2,0,1\na,2,1,0,1\na,2,2,0,1\nb,1,1,0,1\nb,1,2,0,1\nb,2,2,0,1\n",
             total(2, 2, 1, 0),
         ),
-    ] {
+    ];
+    for (rows, error) in &cases {
         let text = format!(in rt.alloc(); "{HEADER}{rows}")?;
         assert!(rt; text.len() <= 200);
         let found = read_demand(rt.alloc(), text.as_bytes(), &names, 2, 2, 1, false).err();
-        assert_eq!(rt; found, Some(error), "{rows}");
+        assert_eq!(rt; found, Some(*error), "{rows}");
     }
     Ok(())
 }
@@ -175,16 +178,17 @@ fn weights_are_scaled(rt: HostRuntime) -> Result<(), Fail> {
     assert_eq!(rt; demand.tail(1, 1, 1, 1), 9);
     let found = read_demand(rt.alloc(), text.as_bytes(), &names, 1, 1, 12, false).err();
     assert_eq!(rt; found, Some(total(1, 1, 1, 4)));
-    for (rows, error) in [
+    let cases = [
         ("a,1,1,0,1\na,1,1,1,4\n", total(1, 1, 1, 5)),
         ("a,1,1,0,0\nb,1,1,0,12\n", total(1, 1, 1, 0)),
         ("a,1,1,0,6\n", total(2, 1, 1, 0)),
         ("a,1,1,0,12\na,1,1,1,12\n", total(1, 1, 1, 24)),
-    ] {
+    ];
+    for (rows, error) in &cases {
         let text = format!(in rt.alloc(); "{HEADER}{rows}")?;
         assert!(rt; text.len() <= 100);
         let found = read_demand(rt.alloc(), text.as_bytes(), &names, 1, 1, 12, true).err();
-        assert_eq!(rt; found, Some(error), "{rows}");
+        assert_eq!(rt; found, Some(*error), "{rows}");
     }
     Ok(())
 }
