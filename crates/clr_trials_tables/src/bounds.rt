@@ -6,11 +6,11 @@ ghost use Rattle.clr_season.specs.Season.{IsSeason};
 ghost use Rattle.clr_storedp.specs.Tables.{AreOfSeason, AreSmall};
 ghost use Rattle.std.specs.Prelude.{◌≡◌, IfOk};
 
-use clr_io::MemoryShelf;
+use crate::folders::season_of;
 use clr_mult::Mult;
 use clr_num::Up;
 use clr_rules::{Live, Summary};
-use clr_season::{Season, read_season};
+use clr_season::Season;
 use clr_storedp::{StoreTable, bound, tables};
 use std::alloc::{AllocError, Global};
 use std::test::Fail;
@@ -78,28 +78,8 @@ const CASES: [Case; 4] = [
     },
 ];
 
-fn season(alloc: Global, case: &Case) -> Result<Season, Fail> {
-    let mut files = Vec::new(alloc);
-    let texts = [
-        ("f/rules.json", case.rules),
-        ("f/calendar.csv", ""),
-        ("f/ladder.csv", case.ladder),
-        ("f/stock.csv", case.stock),
-        ("f/demand.csv", case.demand),
-    ];
-    for (name, text) in texts {
-        files.push((
-            String::from_str(alloc, name)?,
-            text.as_bytes().to_vec(alloc)?,
-        ))?;
-    }
-    let mut shelf = MemoryShelf::new(files, 16, Vec::new(alloc));
-    let season = read_season(alloc, &mut shelf, "f")?;
-    Ok(season)
-}
-
-// Multipliers of 0 for a season.
-fn nothing_paid(alloc: Global, season: &Season) -> Result<Mult, AllocError>
+/// Multipliers of 0 for a season.
+pub fn nothing_paid(alloc: Global, season: &Season) -> Result<Mult, AllocError>
     ensures of { IfOk result (λ mult. AreOfSeason season.now mult) }
     ensures small { IfOk result (λ mult. AreSmall mult) }
 {
@@ -139,7 +119,7 @@ fn first_row(alloc: Global, season: &Season, live: &Live) -> Result<Option<Vec<i
 
 // Whether the first store of a case's season has its values, and all stores together their bound.
 fn is_bounded(alloc: Global, case: &Case) -> Result<bool, Fail> {
-    let season = season(alloc, case)?;
+    let season = season_of(alloc, case.rules, "", case.ladder, case.stock, case.demand)?;
     let live = Live::build(alloc, season.rules())?;
     if !live.any() {
         return Ok(false);

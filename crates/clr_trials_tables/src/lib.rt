@@ -1,5 +1,22 @@
-//! Tests of the stores' tables and of the bound that they make, through the public calls of their crates.
+//! Tests of the stores' tables with their bound, the usage and the descent, the table of all stores together with its limits, and the
+//! search, through the public calls of their crates.
 #![tactic(auto)]
 
 #[cfg(test)]
 mod bounds;
+#[cfg(test)]
+mod exact;
+#[cfg(test)]
+mod folders;
+#[cfg(test)]
+mod limits;
+#[cfg(test)]
+mod places;
+#[cfg(test)]
+mod reads;
+#[cfg(test)]
+mod runs;
+#[cfg(test)]
+mod searches;
+#[cfg(test)]
+mod shares;

@@ -3,8 +3,8 @@ ghost use Rattle.clr_rules.specs.LiveSummaries.{live_pairs};
 ghost use Rattle.clr_season.specs.Season.{IsSeason};
 ghost use Rattle.std.specs.Prelude.{◌≡◌};
 
+use crate::folders::{Files, season};
 use crate::reads::{choice_at, table, values_at};
-use crate::seasons::{Files, season};
 use clr_rules::{Live, Summary};
 use clr_season::Season;
 use std::alloc::{AllocError, Global};
@@ -73,7 +73,7 @@ fn wrong_place(alloc: Global, season: &Season, live: &Live) -> Result<Option<usi
 
 #[test]
 fn each_place_has_its_values_and_choice(rt: HostRuntime) -> Result<(), Fail> {
-    let season = season(rt.alloc(), "places", &STEADY_OR_LATE)?;
+    let season = season(rt.alloc(), &STEADY_OR_LATE)?;
     let live = Live::build(rt.alloc(), season.rules())?;
     assert_eq!(rt; wrong_place(rt.alloc(), &season, &live)?, None);
     Ok(())

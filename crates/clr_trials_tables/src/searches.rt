@@ -5,24 +5,15 @@ ghost use Rattle.clr_rules.specs.LiveSummaries.{live_pairs};
 ghost use Rattle.clr_storedp.specs.Tables.{AreOfSeason, AreSmall};
 ghost use Rattle.std.specs.Prelude.{◌≡◌, IfOk};
 
-use clr_io::MemoryShelf;
+use crate::bounds::nothing_paid;
+use crate::folders::{Files, season};
 use clr_mult::Mult;
 use clr_rules::Live;
 use clr_search::{Found, search};
-use clr_season::{Season, read_season};
+use clr_season::Season;
 use clr_storedp::tables;
 use std::alloc::{AllocError, Global};
 use std::test::Fail;
-
-// The files of a season.
-#[derive(Drop)]
-struct Files {
-    rules: &'static str,
-    calendar: &'static str,
-    ladder: &'static str,
-    stock: &'static str,
-    demand: &'static str,
-}
 
 // How many tight prefixes are to be taken, and the path that is found, with its value in units, which is exact, and whether it is
 // the best of all.
@@ -278,35 +269,6 @@ const OTHERS: [Case; 7] = [
         },
     },
 ];
-
-fn season(alloc: Global, files: &Files) -> Result<Season, Fail> {
-    let mut held = Vec::new(alloc);
-    let texts = [
-        ("f/rules.json", files.rules),
-        ("f/calendar.csv", files.calendar),
-        ("f/ladder.csv", files.ladder),
-        ("f/stock.csv", files.stock),
-        ("f/demand.csv", files.demand),
-    ];
-    for (name, text) in texts {
-        held.push((
-            String::from_str(alloc, name)?,
-            text.as_bytes().to_vec(alloc)?,
-        ))?;
-    }
-    let mut shelf = MemoryShelf::new(held, 16, Vec::new(alloc));
-    let season = read_season(alloc, &mut shelf, "f")?;
-    Ok(season)
-}
-
-// Multipliers of 0 for a season.
-fn nothing_paid(alloc: Global, season: &Season) -> Result<Mult, AllocError>
-    ensures of { IfOk result (λ mult. AreOfSeason season.now mult) }
-    ensures small { IfOk result (λ mult. AreSmall mult) }
-{
-    let mult = Mult::zero(alloc, season.stores(), season.weeks(), season.rungs())?;
-    Ok(mult)
-}
 
 // What is found with nothing paid.
 fn free_search(alloc: Global, season: &Season, live: &Live, nodes: u64) -> Result<Found, AllocError>

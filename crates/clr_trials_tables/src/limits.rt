@@ -1,5 +1,5 @@
 // Seasons just inside and just outside of each limit of the table of all stores together.
-use crate::seasons::{Files, season};
+use crate::folders::{Files, season};
 use clr_model::fits;
 use std::alloc::Global;
 use std::test::Fail;
@@ -94,7 +94,7 @@ fn is_judged(alloc: Global, case: &Case) -> Result<bool, Fail> {
         stock: case.stock,
         demand: case.demand,
     };
-    let season = season(alloc, "limits", &files)?;
+    let season = season(alloc, &files)?;
     Ok(fits(&season) == case.fits)
 }
 

@@ -1,5 +1,5 @@
-use Rattle.clr_trials_joint.proofs.ReadPlaces.{has_values}
-use Rattle.clr_trials_joint.proofs.reads.values_at.Goals as goal
+use Rattle.clr_trials_tables.proofs.ReadPlaces.{has_values}
+use Rattle.clr_trials_tables.proofs.reads.values_at.Goals as goal
 
 pub at-requires-clause-stocks : goal.at-requires-clause-stocks
 at-requires-clause-stocks c =

@@ -26,6 +26,7 @@ const CASES: [Case; 3] = [
     Case {
         files: Files {
             rules: "{\"weeks\":1,\"base\":2}",
+            calendar: "",
             ladder: "rung,price\n1,10.00\n2,6.00\n",
             stock: "store,units,salvage\na,1,0\nb,1,0\n",
             demand: "store,week,rung,units,weight\na,1,1,1,2\na,1,2,1,2\nb,1,1,0,2\nb,1,2,1,2\n",
@@ -42,6 +43,7 @@ const CASES: [Case; 3] = [
     Case {
         files: Files {
             rules: "{\"weeks\":2,\"base\":2}",
+            calendar: "",
             ladder: "rung,price\n1,10.00\n2,4.00\n",
             stock: "store,units,salvage\na,2,0\n",
             demand: "store,week,rung,units,weight\na,1,1,0,1\na,1,1,1,1\na,2,1,0,1\na,2,1,1,1\na,1,2,0,2\na,2,2,2,2\n",
@@ -58,6 +60,7 @@ const CASES: [Case; 3] = [
     Case {
         files: Files {
             rules: "{\"weeks\":3,\"base\":3}",
+            calendar: "",
             ladder: "rung,price\n1,10.00\n",
             stock: "store,units,salvage\na,3,0\n",
             demand: "store,week,rung,units,weight\na,1,1,0,1\na,1,1,1,2\na,2,1,0,1\na,2,1,1,2\na,3,1,0,3\n",

@@ -29,6 +29,7 @@ const CASES: [Case; 4] = [
     Case {
         files: Files {
             rules: "{\"weeks\":1,\"base\":2}",
+            calendar: "",
             ladder: "rung,price\n1,10.00\n2,6.00\n",
             stock: "store,units,salvage\na,1,0\nb,1,0\n",
             demand: "store,week,rung,units,weight\na,1,1,1,2\na,1,2,1,2\nb,1,1,0,2\nb,1,2,1,2\n",
@@ -50,6 +51,7 @@ const CASES: [Case; 4] = [
     Case {
         files: Files {
             rules: "{\"weeks\":1,\"base\":1}",
+            calendar: "",
             ladder: "rung,price\n1,10.00\n2,6.00\n",
             stock: "store,units,salvage\na,1,0\nb,1,0\nc,1,0\n",
             demand: "store,week,rung,units,weight\na,1,1,1,1\na,1,2,1,1\nb,1,1,0,1\nb,1,2,1,1\nc,1,1,0,1\nc,1,2,1,1\n",
@@ -60,6 +62,7 @@ const CASES: [Case; 4] = [
     Case {
         files: Files {
             rules: "{\"weeks\":1,\"base\":4}",
+            calendar: "",
             ladder: "rung,price\n1,10.00\n",
             stock: "store,units,salvage\na,0,2.00\n",
             demand: "store,week,rung,units,weight\na,1,1,0,1\na,1,1,1,3\n",
@@ -71,6 +74,7 @@ const CASES: [Case; 4] = [
     Case {
         files: Files {
             rules: "{\"weeks\":2,\"base\":2}",
+            calendar: "",
             ladder: "rung,price\n1,10.00\n2,4.00\n",
             stock: "store,units,salvage\na,2,0\n",
             demand: "store,week,rung,units,weight\na,1,1,0,1\na,1,1,1,1\na,2,1,0,1\na,2,1,1,1\na,1,2,0,2\na,2,2,2,2\n",
@@ -159,6 +163,7 @@ fn many_cells_keep_their_bound(rt: HostRuntime) -> Result<(), Fail> {
     let season = season_of(
         alloc,
         "{\"weeks\":4,\"base\":1,\"markdowns\":0,\"spacing\":10}",
+        "",
         "rung,price\n1,5.00\n2,4.00\n3,3.00\n4,2.00\n5,1.00\n",
         stock.as_str(),
         demand.as_str(),

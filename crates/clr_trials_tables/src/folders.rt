@@ -4,18 +4,21 @@ use clr_season::{Season, read_season};
 use std::alloc::Global;
 use std::test::Fail;
 
-// The files of a season.
+/// The texts of a season's files.
+#[derive(Drop)]
 pub struct Files {
     pub rules: &'static str,
+    pub calendar: &'static str,
     pub ladder: &'static str,
     pub stock: &'static str,
     pub demand: &'static str,
 }
 
-// The season of a folder with these files.
+/// The season of a folder with these files.
 pub fn season_of<'x>(
     alloc: Global,
     rules: &'x str,
+    calendar: &'x str,
     ladder: &'x str,
     stock: &'x str,
     demand: &'x str,
@@ -23,7 +26,7 @@ pub fn season_of<'x>(
     let mut files = Vec::new(alloc);
     let texts = [
         ("f/rules.json", rules),
-        ("f/calendar.csv", ""),
+        ("f/calendar.csv", calendar),
         ("f/ladder.csv", ladder),
         ("f/stock.csv", stock),
         ("f/demand.csv", demand),
@@ -39,6 +42,14 @@ pub fn season_of<'x>(
     Ok(season)
 }
 
+/// The season of these files.
 pub fn season(alloc: Global, files: &Files) -> Result<Season, Fail> {
-    season_of(alloc, files.rules, files.ladder, files.stock, files.demand)
+    season_of(
+        alloc,
+        files.rules,
+        files.calendar,
+        files.ladder,
+        files.stock,
+        files.demand,
+    )
 }

@@ -1,6 +1,6 @@
 use Rattle.std.proofs.Common.{◌<◌, arith}
-use Rattle.clr_trials_joint.proofs.ReadPlaces.{has_choices}
-use Rattle.clr_trials_joint.proofs.reads.choice_at.Goals as goal
+use Rattle.clr_trials_tables.proofs.ReadPlaces.{has_choices}
+use Rattle.clr_trials_tables.proofs.reads.choice_at.Goals as goal
 
 pub choice-requires-clause-stocks : goal.choice-requires-clause-stocks
 choice-requires-clause-stocks c =

@@ -3,8 +3,8 @@ ghost use Rattle.clr_rules.specs.LiveSummaries.{live_pairs};
 ghost use Rattle.clr_season.specs.Season.{IsSeason};
 ghost use Rattle.std.specs.Prelude.{◌≡◌};
 
+use crate::folders::{Files, season};
 use crate::reads::{choice_at, table};
-use crate::seasons::{Files, season};
 use clr_rules::Live;
 use clr_season::Season;
 use std::alloc::{AllocError, Global};
@@ -189,7 +189,7 @@ fn opening(
 
 // Whether the table of a season opens with the values and the choice of its case.
 fn opens_with(alloc: Global, case: &Case) -> Result<bool, Fail> {
-    let season = season(alloc, "exact", &case.files)?;
+    let season = season(alloc, &case.files)?;
     let live = Live::build(alloc, season.rules())?;
     let opening = opening(alloc, &season, &live, case.stocks)?;
     Ok(opening == Some((case.low, case.top, Some(case.first))))
