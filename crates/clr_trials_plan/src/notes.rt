@@ -1,4 +1,5 @@
 // Each note's text.
+use clr_cert::{No, NoKind};
 use clr_report::{Cause, Doc, note_text};
 use clr_text::Why;
 
@@ -224,6 +225,53 @@ fn tells_why_a_file_is_refused(rt: HostRuntime) {
         };
         let mut out = [0; 256];
         let end = note_text(&cause, &mut out);
+        assert_eq!(rt; &out[..end], want.as_bytes(), "{want}");
+    }
+}
+
+// Kinds of refusals of a certificate's row 29 with their two sides, and the lines that tell them.
+const CERTIFICATE_NOS: [(NoKind, i128, i128, &str); 13] = [
+    (NoKind::Form, 0, 0, "certificate no: row 29 form\n"),
+    (NoKind::Range, 0, 0, "certificate no: row 29 range\n"),
+    (NoKind::Short, 0, 0, "certificate no: row 29 short\n"),
+    (NoKind::Extra, 0, 0, "certificate no: row 29 extra\n"),
+    (NoKind::Path, 2, 1, "certificate no: row 29 path 2 1\n"),
+    (NoKind::Sum, 1, 0, "certificate no: row 29 sum 1 0\n"),
+    (NoKind::Low, 3, 0, "certificate no: row 29 low 3 0\n"),
+    (NoKind::High, -1, 0, "certificate no: row 29 high -1 0\n"),
+    (
+        NoKind::Value,
+        2_299_999_998,
+        2_300_000_000,
+        "certificate no: row 29 value 2299999998 2300000000\n",
+    ),
+    (NoKind::Rung, 2, 1, "certificate no: row 29 rung 2 1\n"),
+    (
+        NoKind::JointLow,
+        1,
+        0,
+        "certificate no: row 29 jointlow 1 0\n",
+    ),
+    (
+        NoKind::JointTop,
+        -2,
+        0,
+        "certificate no: row 29 jointtop -2 0\n",
+    ),
+    (NoKind::Total, 7, 6, "certificate no: row 29 total 7 6\n"),
+];
+
+#[test]
+fn tells_why_a_certificate_is_refused(rt: HostRuntime) {
+    for (kind, left, right, want) in &CERTIFICATE_NOS {
+        let no = No {
+            row: 29,
+            kind: *kind,
+            left: *left,
+            right: *right,
+        };
+        let mut out = [0; 256];
+        let end = note_text(&Cause::CertificateNo { no }, &mut out);
         assert_eq!(rt; &out[..end], want.as_bytes(), "{want}");
     }
 }
