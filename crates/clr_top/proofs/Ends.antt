@@ -274,3 +274,14 @@ only-memory status None docs ShelfRose DeskRose OutRose (inl ok) is read write c
 only-memory status None docs ShelfRose DeskRose OutRose (inr (inl written)) is read write calm_shelf calm_desk calm_out = let (doc, fails) = write written in absurd (no-fails docs DeskRose OutRose doc calm_desk calm_out fails)
 only-memory status None docs ShelfRose DeskRose OutRose (inr (inr (inl failed))) is read write calm_shelf calm_desk calm_out = absurd (calm_shelf (read failed))
 only-memory status None docs ShelfRose DeskRose OutRose (inr (inr (inr memory))) is read write calm_shelf calm_desk calm_out = inr memory
+
+-- ---- what a run that writes all isn't
+
+pub ok-no-read : s.Ok ≢ s.ReadFault
+ok-no-read is = cc
+
+pub ok-no-write : s.Ok ≢ s.WriteFault
+ok-no-write is = cc
+
+pub ok-no-words : s.Ok ≢ s.Words
+ok-no-words is = cc

@@ -76,6 +76,13 @@ pub(crate) fn held(
     Ok(held)
 }
 
+// What is said: a whole report, or the note of a status.
+#[derive(Clone, Copy)]
+pub(crate) enum Said {
+    Report(&'static [u8]),
+    Note(Status, &'static str),
+}
+
 // What a run answered, and what stands on its sinks.
 #[derive(Drop)]
 pub(crate) struct Answer {
@@ -95,6 +102,22 @@ impl Answer {
         self.status == Status::Ok
             && self.out.bytes().ends_with(lines.as_bytes())
             && self.note.bytes().is_empty()
+    }
+
+    // Of the report a front of so many bytes stands, and the note of the fault.
+    pub(crate) fn breaks_off(&self, report: &[u8], count: usize) -> bool {
+        self.status == Status::WriteFault
+            && self.out.bytes().len() == count
+            && report.starts_with(self.out.bytes())
+            && self.note.bytes() == b"write fault: report\n".as_slice()
+    }
+
+    // The report stands whole, or the note, and nothing else.
+    pub(crate) fn says(&self, said: &Said) -> bool {
+        match said {
+            Said::Report(report) => self.reports(report),
+            Said::Note(status, note) => self.notes(*status, note),
+        }
     }
 
     // The note stands, and nothing else.

@@ -113,59 +113,62 @@ pub(crate) fn certify(
     run_over(alloc, &words, &mut shelf, desk, failing)
 }
 
+// Over a desk that takes so many bytes a call, the report of these files is written, and this certificate.
+fn is_certified(
+    alloc: Global,
+    files: Files<'_>,
+    text: &[u8],
+    piece: usize,
+) -> Result<bool, AllocError> {
+    let mut desk = MemoryDesk::new(alloc, 1, 4096, piece.max(1), Vec::new(alloc))?;
+    let answer = certify(alloc, files, &mut desk, NONE_FAILS)?;
+    Ok(answer.reports(REPORT) && has_made(&desk, text))
+}
+
 #[test]
 fn certificates_are_written(rt: HostRuntime) -> Result<(), Fail> {
     let alloc = rt.alloc();
     let text = text_behind(alloc, "clearance certificate 1\n")?;
-    for piece in [65_536, 7] {
-        let mut desk = MemoryDesk::new(alloc, 1, 4096, piece, Vec::new(alloc))?;
-        let answer = certify(alloc, TWO_WEEKS, &mut desk, NONE_FAILS)?;
-        assert!(rt; answer.reports(REPORT), "{piece}");
-        assert!(rt; has_made(&desk, &text), "{piece}");
-    }
+    assert!(rt; is_certified(alloc, TWO_WEEKS, &text, 65_536)?);
+    assert!(rt; is_certified(alloc, TWO_WEEKS, &text, 7)?);
+    let long = text_behind(alloc, LONG_HEAD)?;
+    assert!(rt; is_certified(alloc, VERSION_3, &long, 65_536)?);
     Ok(())
 }
 
-#[test]
-fn long_heads_are_written(rt: HostRuntime) -> Result<(), Fail> {
-    let alloc = rt.alloc();
-    let text = text_behind(alloc, LONG_HEAD)?;
-    let mut desk = MemoryDesk::new(alloc, 1, 4096, 65_536, Vec::new(alloc))?;
-    let answer = certify(alloc, VERSION_3, &mut desk, NONE_FAILS)?;
-    assert!(rt; answer.reports(REPORT) && has_made(&desk, &text));
-    Ok(())
+// On this desk the certificate fails, and its fault is noted.
+fn fails(alloc: Global, desk: &mut MemoryDesk) -> Result<bool, AllocError> {
+    let answer = certify(alloc, TWO_WEEKS, desk, NONE_FAILS)?;
+    Ok(answer.notes(Status::WriteFault, "write fault: certificate"))
 }
 
 #[test]
 fn desks_fail(rt: HostRuntime) -> Result<(), Fail> {
     let alloc = rt.alloc();
-    let text = text_behind(alloc, "clearance certificate 1\n")?;
-    let mut desk = MemoryDesk::new(alloc, 1, 4096, 65_536, list_of(alloc, &[1])?)?;
-    let no_file = certify(alloc, TWO_WEEKS, &mut desk, NONE_FAILS)?;
-    assert!(rt; no_file.notes(Status::WriteFault, "write fault: certificate"));
-    assert!(rt; desk.count() == 0);
+    let mut no_file = MemoryDesk::new(alloc, 1, 4096, 65_536, list_of(alloc, &[1])?)?;
+    assert!(rt; fails(alloc, &mut no_file)? && no_file.count() == 0);
     // The room ends in the midst of the text.
-    let mut desk = MemoryDesk::new(alloc, 1, 100, 65_536, Vec::new(alloc))?;
-    let no_room = certify(alloc, TWO_WEEKS, &mut desk, NONE_FAILS)?;
-    assert!(rt; no_room.notes(Status::WriteFault, "write fault: certificate"));
-    assert!(rt; has_front(&desk, &text, 100));
+    let text = text_behind(alloc, "clearance certificate 1\n")?;
+    let mut no_room = MemoryDesk::new(alloc, 1, 100, 65_536, Vec::new(alloc))?;
+    assert!(rt; fails(alloc, &mut no_room)? && has_front(&no_room, &text, 100));
     Ok(())
 }
 
 // A fault of the report leaves the certificate whole.
-#[test]
-fn reports_fail_behind_certificates(rt: HostRuntime) -> Result<(), Fail> {
-    let alloc = rt.alloc();
-    let text = text_behind(alloc, "clearance certificate 1\n")?;
+fn is_whole_at_a_fault(alloc: Global, text: &[u8]) -> Result<bool, AllocError> {
     let mut desk = MemoryDesk::new(alloc, 1, 4096, 65_536, Vec::new(alloc))?;
     let failing = Failing {
         report: &[3],
         note: &[],
     };
-    let no_report = certify(alloc, TWO_WEEKS, &mut desk, failing)?;
-    assert!(rt; no_report.status == Status::WriteFault && has_made(&desk, &text));
-    assert!(rt; no_report.note.bytes() == b"write fault: report\n".as_slice());
-    assert!(rt; no_report.out.bytes() == &REPORT[..32]);
+    let answer = certify(alloc, TWO_WEEKS, &mut desk, failing)?;
+    Ok(answer.breaks_off(REPORT, 32) && has_made(&desk, text))
+}
+
+#[test]
+fn reports_fail_behind_certificates(rt: HostRuntime) -> Result<(), Fail> {
+    let text = text_behind(rt.alloc(), "clearance certificate 1\n")?;
+    assert!(rt; is_whole_at_a_fault(rt.alloc(), &text)?);
     Ok(())
 }
 

@@ -1,5 +1,5 @@
 // Certificates that a run checks. The worked one, with a line that is changed, is read in pieces of several lengths.
-use crate::cases::{Answer, Files, NONE_FAILS, TWO_WEEKS, held, list_of, run_on};
+use crate::cases::{Answer, Files, NONE_FAILS, Said, TWO_WEEKS, held, list_of, run_on};
 use crate::certs::{LONG_HEAD, VERSION_3, text_behind, worked_certificate};
 use crate::ending::Status;
 use clr_io::MemoryShelf;
@@ -11,26 +11,42 @@ const CHECK_REPORT: &[u8] =
 
 const PIECES: [usize; 3] = [1, 16, 65_536];
 
-// A row, what stands in its place, and what is noted of it. Row 36 is one line too many.
-const CHANGED: [(usize, &str, &str); 6] = [
+// A row, what stands in its place, and what is said of it. No line stands in row 0, and row 36 is one line too many.
+const CHANGED: [(usize, &str, Said); 7] = [
+    (0, "", Said::Report(CHECK_REPORT)),
     (
         29,
         "v,0,1,1,0,1,0,750000000,1149999999",
-        "certificate no: row 29 value 2299999998 2300000000",
+        Said::Note(
+            Status::CertificateNo,
+            "certificate no: row 29 value 2299999998 2300000000",
+        ),
     ),
     (
         17,
         "l,1,1,00,400000000,800000000",
-        "certificate no: row 17 form",
+        Said::Note(Status::CertificateNo, "certificate no: row 17 form"),
     ),
     (
         17,
         "l,1,1,0,+400000000,800000000",
-        "certificate no: row 17 form",
+        Said::Note(Status::CertificateNo, "certificate no: row 17 form"),
     ),
-    (2, "path,1,3", "certificate no: row 2 range"),
-    (2, "path,2,1", "certificate no: row 2 path 2 1"),
-    (36, "x", "certificate no: row 36 extra"),
+    (
+        2,
+        "path,1,3",
+        Said::Note(Status::CertificateNo, "certificate no: row 2 range"),
+    ),
+    (
+        2,
+        "path,2,1",
+        Said::Note(Status::CertificateNo, "certificate no: row 2 path 2 1"),
+    ),
+    (
+        36,
+        "x",
+        Said::Note(Status::CertificateNo, "certificate no: row 36 extra"),
+    ),
 ];
 
 // What is answered to `check f`, where the folder holds these files and this certificate.
@@ -50,18 +66,34 @@ fn checked(
     run_on(alloc, &["check", "f"], &mut shelf, NONE_FAILS)
 }
 
+// This is said of the certificate, which is read in pieces of so many bytes, and whose call of this number fails.
+fn is_said(
+    alloc: Global,
+    files: Files<'_>,
+    text: &[u8],
+    piece: usize,
+    fail: u64,
+    said: &Said,
+) -> Result<bool, AllocError> {
+    let answer = checked(alloc, files, text, piece, &[fail])?;
+    Ok(answer.says(said))
+}
+
+// This is said of the worked certificate with a line in the place of the row's own.
+fn is_said_of(alloc: Global, row: usize, line: &str, said: &Said) -> Result<bool, AllocError> {
+    let text = worked_certificate(alloc, row, line)?;
+    for piece in &PIECES {
+        if !is_said(alloc, TWO_WEEKS, &text, *piece, 0, said)? {
+            return Ok(false);
+        }
+    }
+    Ok(true)
+}
+
 #[test]
 fn certificates_are_checked(rt: HostRuntime) -> Result<(), Fail> {
-    let alloc = rt.alloc();
-    let whole = worked_certificate(alloc, 0, "")?;
-    for piece in PIECES {
-        let answer = checked(alloc, TWO_WEEKS, &whole, piece, &[])?;
-        assert!(rt; answer.reports(CHECK_REPORT), "{piece}");
-        for (row, line, note) in CHANGED {
-            let text = worked_certificate(alloc, row, line)?;
-            let answer = checked(alloc, TWO_WEEKS, &text, piece, &[])?;
-            assert!(rt; answer.notes(Status::CertificateNo, note), "{note}");
-        }
+    for (row, line, said) in &CHANGED {
+        assert!(rt; is_said_of(rt.alloc(), *row, *line, said)?, "{row} {line}");
     }
     Ok(())
 }
@@ -71,27 +103,28 @@ fn certificates_are_checked(rt: HostRuntime) -> Result<(), Fail> {
 fn long_heads_are_checked(rt: HostRuntime) -> Result<(), Fail> {
     let alloc = rt.alloc();
     let text = text_behind(alloc, LONG_HEAD)?;
-    let answer = checked(alloc, VERSION_3, &text, 16, &[])?;
-    assert!(rt; answer.reports(CHECK_REPORT));
+    let whole = Said::Report(CHECK_REPORT);
+    assert!(rt; is_said(alloc, VERSION_3, &text, 16, 0, &whole)?);
     let other = text_behind(alloc, "clearance certificate 2\nlengths,37,1,2,2\n")?;
-    let answer = checked(alloc, VERSION_3, &other, 16, &[])?;
-    assert!(rt; answer.notes(Status::CertificateNo, "certificate no: row 2 form"));
+    let no = Said::Note(Status::CertificateNo, "certificate no: row 2 form");
+    assert!(rt; is_said(alloc, VERSION_3, &other, 16, 0, &no)?);
     Ok(())
 }
 
 // Each of the four files before it takes an opening, a read, and a read at its end.
 #[test]
 fn shelves_fail_at_certificates(rt: HostRuntime) -> Result<(), Fail> {
-    let alloc = rt.alloc();
-    let whole = worked_certificate(alloc, 0, "")?;
-    for fail in [13, 14, 15] {
-        let answer = checked(alloc, TWO_WEEKS, &whole, 65_536, &[fail])?;
+    let text = worked_certificate(rt.alloc(), 0, "")?;
+    for fail in 13..=16 {
+        let said = if fail < 16 {
+            Said::Note(Status::ReadFault, "read fault: certificate")
+        } else {
+            Said::Report(CHECK_REPORT)
+        };
         assert!(rt;
-            answer.notes(Status::ReadFault, "read fault: certificate"),
+            is_said(rt.alloc(), TWO_WEEKS, &text, 65_536, fail, &said)?,
             "{fail}"
         );
     }
-    let answer = checked(alloc, TWO_WEEKS, &whole, 65_536, &[16])?;
-    assert!(rt; answer.reports(CHECK_REPORT));
     Ok(())
 }

@@ -2,55 +2,93 @@
 ghost use Rattle.std.specs.Prelude.{◌≤◌};
 
 use crate::cases::{
-    Answer, Failing, Files, NONE_FAILS, SMALLEST, SMALLEST_REPORT, asked_of, held, list_of,
-    planned, planned_on_disk, run_on,
+    Failing, Files, NONE_FAILS, SMALLEST, SMALLEST_REPORT, Said, asked_of, held, list_of, planned,
+    planned_on_disk, run_on,
 };
 use crate::ending::Status;
-use clr_io::{FileShelf, MemoryShelf};
+use clr_io::{FileShelf, MemoryShelf, Shelf};
 use std::alloc::{AllocError, Global};
 use std::fs;
+use std::rt::Files as RealFiles;
 use std::test::Fail;
 
 const USAGE: &str =
     "usage: clearance plan|check|judge|make FOLDER [--steps N] [--step N] [--nodes N] [--cert NAME] [--seed N]";
 
-// The plan of files without one of them, by its number from 1.
-fn without(alloc: Global, files: Files<'_>, left_out: usize) -> Result<Answer, AllocError> {
+// Files without one of them, by its number from 1, and what is said of their plan.
+const WITHOUT: [(Files<'static>, usize, Said); 8] = [
+    (
+        EMPTY_CALENDAR,
+        1,
+        Said::Note(Status::Absent, "absent: rules.json"),
+    ),
+    (
+        EMPTY_CALENDAR,
+        2,
+        Said::Note(Status::Absent, "absent: calendar.csv"),
+    ),
+    (
+        EMPTY_CALENDAR,
+        3,
+        Said::Note(Status::Absent, "absent: ladder.csv"),
+    ),
+    (
+        EMPTY_CALENDAR,
+        4,
+        Said::Note(Status::Absent, "absent: stock.csv"),
+    ),
+    (
+        EMPTY_CALENDAR,
+        5,
+        Said::Note(Status::Absent, "absent: demand.csv"),
+    ),
+    // Without `calendar` in the rules there need be no calendar.
+    (SMALLEST, 2, Said::Report(SMALLEST_REPORT)),
+    // What stands before an absent file is judged first, and what stands behind it is not.
+    (
+        NO_LADDER,
+        4,
+        Said::Note(Status::Refused, "refused: ladder.csv header"),
+    ),
+    (
+        NO_LADDER,
+        1,
+        Said::Note(Status::Absent, "absent: rules.json"),
+    ),
+];
+
+const EMPTY_CALENDAR: Files<'static> = Files {
+    rules: b"{\"weeks\":1,\"base\":4,\"calendar\":true}",
+    calendar: b"week,from,to,frozen\n",
+    ..SMALLEST
+};
+
+const NO_LADDER: Files<'static> = Files {
+    ladder: b"",
+    demand: b"",
+    ..SMALLEST
+};
+
+// This is said of the plan of files without one of them.
+fn is_said_without(
+    alloc: Global,
+    files: Files<'_>,
+    left_out: usize,
+    said: &Said,
+) -> Result<bool, AllocError> {
     let mut shelf = MemoryShelf::new(held(alloc, files, left_out)?, 16, Vec::new(alloc));
-    run_on(alloc, &["plan", "f"], &mut shelf, NONE_FAILS)
+    let answer = run_on(alloc, &["plan", "f"], &mut shelf, NONE_FAILS)?;
+    Ok(answer.says(said))
 }
 
 #[test]
 fn absent_files_are_told(rt: HostRuntime) -> Result<(), Fail> {
-    let alloc = rt.alloc();
-    let notes = [
-        "absent: rules.json",
-        "absent: calendar.csv",
-        "absent: ladder.csv",
-        "absent: stock.csv",
-        "absent: demand.csv",
-    ];
-    let files = Files {
-        rules: b"{\"weeks\":1,\"base\":4,\"calendar\":true}",
-        calendar: b"week,from,to,frozen\n",
-        ..SMALLEST
-    };
-    for (index, note) in notes.iter().enumerate() {
-        let answer = without(alloc, files, index + 1)?;
-        assert!(rt; answer.notes(Status::Absent, note), "{note}");
+    for (index, (files, left_out, said)) in WITHOUT.iter().enumerate() {
+        assert!(rt;
+            is_said_without(rt.alloc(), *files, *left_out, said)?,
+            "{index}"
+        );
     }
-    // Without `calendar` in the rules there need be no calendar.
-    assert!(rt; without(alloc, SMALLEST, 2)?.reports(SMALLEST_REPORT));
-    // What stands before an absent file is judged first, and what stands behind it is not.
-    let broken = Files {
-        ladder: b"",
-        demand: b"",
-        ..SMALLEST
-    };
-    let before = without(alloc, broken, 4)?;
-    assert!(rt; before.notes(Status::Refused, "refused: ladder.csv header"));
-    let behind = without(alloc, broken, 1)?;
-    assert!(rt; behind.notes(Status::Absent, "absent: rules.json"));
     Ok(())
 }
 
@@ -77,59 +115,79 @@ fn padded(alloc: Global, count: usize) -> Result<Vec<u8>, AllocError>
     Ok(text)
 }
 
+// Rules with arrays nested 128 deep are refused.
+fn is_too_deep(alloc: Global) -> Result<bool, AllocError> {
+    let deep = nested(alloc, 128)?;
+    let files = Files {
+        rules: &deep,
+        ..SMALLEST
+    };
+    let answer = planned(alloc, files)?;
+    Ok(answer.notes(Status::Refused, "refused: rules.json json"))
+}
+
+// This is said of the plan of files with a demand of so many bytes, over the memory and over a real folder, which is there.
+fn is_said_of_length(
+    rt: &impl RealFiles,
+    alloc: Global,
+    folder: &str,
+    count: usize,
+    said: &Said,
+) -> Result<bool, Fail>
+    requires { 49 ≤ count }
+{
+    let demand = padded(alloc, count)?;
+    let files = Files {
+        demand: &demand,
+        ..SMALLEST
+    };
+    let mut shelf = MemoryShelf::new(held(alloc, files, 0)?, 1_000_000, Vec::new(alloc));
+    let answer = run_on(alloc, &["plan", "f"], &mut shelf, NONE_FAILS)?;
+    let on_disk = planned_on_disk(rt, alloc, folder, files)?;
+    Ok(answer.says(said) && on_disk.says(said))
+}
+
 #[test]
 fn long_and_deep_files_are_told(rt: HostRuntime) -> Result<(), Fail> {
     let alloc = rt.alloc();
     fs::create_dir(&rt, "long")?;
-    let deep = nested(alloc, 128)?;
-    let answer = planned(
-        alloc,
-        Files {
-            rules: &deep,
-            ..SMALLEST
-        },
-    )?;
-    assert!(rt; answer.notes(Status::Refused, "refused: rules.json json"));
-    for (count, fits) in [(33_554_432, true), (33_554_433, false)] {
-        let demand = padded(alloc, count)?;
-        let files = Files {
-            demand: &demand,
-            ..SMALLEST
-        };
-        let mut shelf = MemoryShelf::new(held(alloc, files, 0)?, 1_000_000, Vec::new(alloc));
-        let answer = run_on(alloc, &["plan", "f"], &mut shelf, NONE_FAILS)?;
-        assert!(rt; answer.reports(SMALLEST_REPORT) == fits, "{count}");
-        assert!(rt;
-            answer.notes(Status::Limit, "limit: demand.csv longer than 33554432") != fits,
-            "{count}"
-        );
-        let on_disk = planned_on_disk(&rt, alloc, "long", files)?;
-        assert!(rt; on_disk.reports(SMALLEST_REPORT) == fits, "{count} on disk");
-        assert!(rt;
-            on_disk.notes(Status::Limit, "limit: demand.csv longer than 33554432") != fits,
-            "{count} on disk"
-        );
-    }
+    assert!(rt; is_too_deep(alloc)?);
+    let longest = Said::Report(SMALLEST_REPORT);
+    assert!(rt; is_said_of_length(&rt, alloc, "long", 33_554_432, &longest)?);
+    let longer = Said::Note(Status::Limit, "limit: demand.csv longer than 33554432");
+    assert!(rt; is_said_of_length(&rt, alloc, "long", 33_554_433, &longer)?);
     Ok(())
+}
+
+// The note of the plan of a real folder stands.
+fn is_noted<H: Shelf>(
+    alloc: Global,
+    shelf: &mut H,
+    folder: &str,
+    status: Status,
+    note: &str,
+) -> Result<bool, AllocError> {
+    let answer = run_on(alloc, &["plan", folder], shelf, NONE_FAILS)?;
+    Ok(answer.notes(status, note))
 }
 
 #[test]
 fn real_folders_lack_files(rt: HostRuntime) -> Result<(), Fail> {
     let alloc = rt.alloc();
     let mut shelf = FileShelf::new(&rt);
-    let no_folder = run_on(alloc, &["plan", "lacking"], &mut shelf, NONE_FAILS)?;
-    assert!(rt; no_folder.notes(Status::Absent, "absent: rules.json"));
+    let note = "absent: rules.json";
+    assert!(rt; is_noted(alloc, &mut shelf, "lacking", Status::Absent, note)?);
     fs::create_dir(&rt, "lacking")?;
     let whole = planned_on_disk(&rt, alloc, "lacking", SMALLEST)?;
     assert!(rt; whole.reports(SMALLEST_REPORT));
     fs::remove_file(&rt, "lacking/demand.csv")?;
-    let no_demand = run_on(alloc, &["plan", "lacking"], &mut shelf, NONE_FAILS)?;
-    assert!(rt; no_demand.notes(Status::Absent, "absent: demand.csv"));
+    let note = "absent: demand.csv";
+    assert!(rt; is_noted(alloc, &mut shelf, "lacking", Status::Absent, note)?);
     // A folder in the place of a file opens, and can't be read.
     fs::create_dir(&rt, "odd")?;
     fs::create_dir(&rt, "odd/rules.json")?;
-    let folder = run_on(alloc, &["plan", "odd"], &mut shelf, NONE_FAILS)?;
-    assert!(rt; folder.notes(Status::ReadFault, "read fault: rules.json"));
+    let note = "read fault: rules.json";
+    assert!(rt; is_noted(alloc, &mut shelf, "odd", Status::ReadFault, note)?);
     Ok(())
 }
 
@@ -176,80 +234,106 @@ fn cells_are_counted(rt: HostRuntime) -> Result<(), Fail> {
     Ok(())
 }
 
+// What is said where this call on the shelf fails: there are four files, of four calls each, but for the last, of six.
+fn said_of_fault(fail: u64) -> Said {
+    match fail {
+        1..=4 => Said::Note(Status::ReadFault, "read fault: rules.json"),
+        5..=8 => Said::Note(Status::ReadFault, "read fault: ladder.csv"),
+        9..=12 => Said::Note(Status::ReadFault, "read fault: stock.csv"),
+        13..=18 => Said::Note(Status::ReadFault, "read fault: demand.csv"),
+        _ => Said::Report(SMALLEST_REPORT),
+    }
+}
+
+// That is said where the call fails.
+fn is_shelf_fault_told(alloc: Global, fail: u64) -> Result<bool, AllocError> {
+    let fails = list_of(alloc, &[fail])?;
+    let mut shelf = MemoryShelf::new(held(alloc, SMALLEST, 0)?, 16, fails);
+    let answer = run_on(alloc, &["plan", "f"], &mut shelf, NONE_FAILS)?;
+    Ok(answer.says(&said_of_fault(fail)))
+}
+
+// Where this call on the report's sink fails, what the calls before it wrote stands, 16 bytes a call, and the note of the fault.
+fn is_sink_fault_told(alloc: Global, fail: u64) -> Result<bool, AllocError> {
+    let mut shelf = MemoryShelf::new(held(alloc, SMALLEST, 0)?, 1000, Vec::new(alloc));
+    let failing = Failing {
+        report: &[fail],
+        note: &[],
+    };
+    let answer = run_on(alloc, &["plan", "f"], &mut shelf, failing)?;
+    let stands = (fail as usize).saturating_sub(1).saturating_mul(16);
+    Ok(if stands < SMALLEST_REPORT.len() {
+        answer.breaks_off(SMALLEST_REPORT, stands)
+    } else {
+        answer.reports(SMALLEST_REPORT)
+    })
+}
+
 #[test]
 fn each_call_fails_once(rt: HostRuntime) -> Result<(), Fail> {
-    let alloc = rt.alloc();
     for fail in 1..=19 {
-        let fails = list_of(alloc, &[fail])?;
-        let mut shelf = MemoryShelf::new(held(alloc, SMALLEST, 0)?, 16, fails);
-        let answer = run_on(alloc, &["plan", "f"], &mut shelf, NONE_FAILS)?;
-        let note = match fail {
-            1..=4 => "read fault: rules.json",
-            5..=8 => "read fault: ladder.csv",
-            9..=12 => "read fault: stock.csv",
-            _ => "read fault: demand.csv",
-        };
-        let failed = fail <= 18;
-        assert!(rt;
-            answer.notes(Status::ReadFault, note) == failed,
-            "shelf {fail}"
-        );
-        assert!(rt; answer.reports(SMALLEST_REPORT) != failed, "shelf {fail}");
+        assert!(rt; is_shelf_fault_told(rt.alloc(), fail)?, "shelf {fail}");
     }
     for fail in 1..=12 {
-        let mut shelf = MemoryShelf::new(held(alloc, SMALLEST, 0)?, 1000, Vec::new(alloc));
-        let failing = Failing {
-            report: &[fail],
-            note: &[],
-        };
-        let answer = run_on(alloc, &["plan", "f"], &mut shelf, failing)?;
-        let stands = (16 * (fail as usize - 1)).min(SMALLEST_REPORT.len());
-        let failed = stands < SMALLEST_REPORT.len();
-        assert!(rt;
-            (answer.status == Status::WriteFault) == failed,
-            "sink {fail}"
-        );
-        assert!(rt;
-            answer.out.bytes() == &SMALLEST_REPORT[..stands],
-            "sink {fail}"
-        );
-        assert!(rt; (answer.note.bytes() == b"write fault: report\n".as_slice()) == failed);
+        assert!(rt; is_sink_fault_told(rt.alloc(), fail)?, "sink {fail}");
     }
     Ok(())
 }
 
-#[test]
-fn words_are_read(rt: HostRuntime) -> Result<(), Fail> {
-    let alloc = rt.alloc();
-    let cases: [(&[&str], Status, &str); 9] = [
-        (&[], Status::Words, USAGE),
-        (&["plan"], Status::Words, USAGE),
-        (&["paint", "f"], Status::Words, USAGE),
-        (&["plan", "-f"], Status::Words, USAGE),
-        (&["plan", "f", "g"], Status::Words, USAGE),
-        (&["plan", "f", "--steps", "101"], Status::Words, USAGE),
-        (&["check", "f"], Status::Absent, "absent: certificate"),
-        (&["judge", "f"], Status::Absent, "absent: policy.json"),
-        (&["plan", "e"], Status::Absent, "absent: rules.json"),
-    ];
-    for (words, status, note) in cases {
-        let mut shelf = MemoryShelf::new(held(alloc, SMALLEST, 0)?, 16, Vec::new(alloc));
-        let answer = run_on(alloc, words, &mut shelf, NONE_FAILS)?;
-        assert!(rt; answer.notes(status, note), "{note}");
-    }
-    let words = [
-        "plan", "--steps", "3", "f", "--step=2", "--nodes", "1", "--seed", "7",
-    ];
-    let mut shelf = MemoryShelf::new(held(alloc, SMALLEST, 0)?, 16, Vec::new(alloc));
-    let answer = run_on(alloc, &words, &mut shelf, NONE_FAILS)?;
-    assert!(rt; answer.reports(SMALLEST_REPORT));
-    // A note that can't be written changes no status.
+// Words, and what is said to them.
+const WORDS: [(&[&str], Said); 10] = [
+    (&[], Said::Note(Status::Words, USAGE)),
+    (&["plan"], Said::Note(Status::Words, USAGE)),
+    (&["paint", "f"], Said::Note(Status::Words, USAGE)),
+    (&["plan", "-f"], Said::Note(Status::Words, USAGE)),
+    (&["plan", "f", "g"], Said::Note(Status::Words, USAGE)),
+    (
+        &["plan", "f", "--steps", "101"],
+        Said::Note(Status::Words, USAGE),
+    ),
+    (
+        &["check", "f"],
+        Said::Note(Status::Absent, "absent: certificate"),
+    ),
+    (
+        &["judge", "f"],
+        Said::Note(Status::Absent, "absent: policy.json"),
+    ),
+    (
+        &["plan", "e"],
+        Said::Note(Status::Absent, "absent: rules.json"),
+    ),
+    (
+        &[
+            "plan", "--steps", "3", "f", "--step=2", "--nodes", "1", "--seed", "7",
+        ],
+        Said::Report(SMALLEST_REPORT),
+    ),
+];
+
+// This is said to the words.
+fn is_said(alloc: Global, words: &[&str], said: &Said) -> Result<bool, AllocError> {
+    let answer = asked_of(alloc, words, SMALLEST)?;
+    Ok(answer.says(said))
+}
+
+// A note that can't be written changes no status.
+fn is_unnoted(alloc: Global) -> Result<bool, AllocError> {
+    let mut shelf = MemoryShelf::new(Vec::new(alloc), 16, Vec::new(alloc));
     let failing = Failing {
         report: &[],
         note: &[1],
     };
     let answer = run_on(alloc, &["plan"], &mut shelf, failing)?;
-    assert!(rt; answer.status == Status::Words && answer.note.bytes().is_empty());
+    Ok(answer.status == Status::Words && answer.note.bytes().is_empty())
+}
+
+#[test]
+fn words_are_read(rt: HostRuntime) -> Result<(), Fail> {
+    for (index, (words, said)) in WORDS.iter().enumerate() {
+        assert!(rt; is_said(rt.alloc(), words, said)?, "{index}");
+    }
+    assert!(rt; is_unnoted(rt.alloc())?);
     Ok(())
 }
 

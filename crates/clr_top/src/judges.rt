@@ -1,15 +1,9 @@
 // Judged policies: what `run` reports of policy files in memory.
-use crate::cases::{Answer, Files, NONE_FAILS, SMALLEST, TWO_WEEKS, held, run_on};
+use crate::cases::{Answer, Files, NONE_FAILS, SMALLEST, Said, TWO_WEEKS, held, run_on};
 use crate::ending::Status;
 use clr_io::MemoryShelf;
 use std::alloc::{AllocError, Global};
 use std::test::Fail;
-
-// What is answered: a report, or the note of a status.
-enum Said {
-    Report(&'static [u8]),
-    Note(Status, &'static str),
-}
 
 // Four stores of a unit each, of which nothing is asked for, and a base of a million.
 const FOUR_OF_A_MILLION: Files<'static> = Files {
@@ -105,15 +99,21 @@ fn judged(alloc: Global, files: Files<'_>, policy: &[u8]) -> Result<Answer, Allo
     run_on(alloc, &["judge", "f"], &mut shelf, NONE_FAILS)
 }
 
+// This is said of the policy.
+fn is_judged(
+    alloc: Global,
+    files: Files<'_>,
+    policy: &[u8],
+    said: &Said,
+) -> Result<bool, AllocError> {
+    let answer = judged(alloc, files, policy)?;
+    Ok(answer.says(said))
+}
+
 #[test]
 fn policies_are_judged(rt: HostRuntime) -> Result<(), Fail> {
-    let alloc = rt.alloc();
     for (index, (files, policy, said)) in CASES.iter().enumerate() {
-        let answer = judged(alloc, *files, policy)?;
-        match said {
-            Said::Report(report) => assert!(rt; answer.reports(report), "{index}"),
-            Said::Note(status, note) => assert!(rt; answer.notes(*status, note), "{index}"),
-        }
+        assert!(rt; is_judged(rt.alloc(), *files, policy, said)?, "{index}");
     }
     Ok(())
 }

@@ -75,33 +75,46 @@ fn file_of(desk: &MemoryDesk, index: usize) -> &[u8] {
     }
 }
 
-// The plan of the files that stand on a desk.
-fn planned(alloc: Global, desk: &MemoryDesk) -> Result<Answer, AllocError> {
+// What the words ask of the files that stand on a desk.
+fn asked_of(alloc: Global, words: &[&str], desk: &MemoryDesk) -> Result<Answer, AllocError> {
     let mut files = Vec::new(alloc);
     for index in 0..desk.count() {
         let name = String::from_str(alloc, desk.name(index))?;
         files.push((name, desk.bytes(index).to_vec(alloc)?))?;
     }
     let mut shelf = MemoryShelf::new(files, 65_536, Vec::new(alloc));
-    run_on(alloc, &["plan", "out"], &mut shelf, NONE_FAILS)
+    run_on(alloc, words, &mut shelf, NONE_FAILS)
+}
+
+// The season of the case is made, and its files are planned with the same report.
+fn is_made(alloc: Global, case: &Case) -> Result<bool, AllocError> {
+    let mut desk = desk_of(alloc, &[])?;
+    let answer = made(alloc, &["make", "out", "--seed", case.seed], &mut desk)?;
+    let again = asked_of(alloc, &["plan", "out"], &desk)?;
+    Ok(
+        answer.reports(case.report)
+            && again.reports(case.report)
+            && is_named(&desk)
+            && file_of(&desk, 2).starts_with(case.stock),
+    )
 }
 
 #[test]
 fn seasons_are_made_and_planned(rt: HostRuntime) -> Result<(), Fail> {
-    let alloc = rt.alloc();
     for case in &CASES {
-        let mut desk = desk_of(alloc, &[])?;
-        let answer = made(alloc, &["make", "out", "--seed", case.seed], &mut desk)?;
-        assert!(rt; answer.reports(case.report), "{}", case.seed);
-        assert!(rt; is_named(&desk), "{}", case.seed);
-        assert!(rt; file_of(&desk, 2).starts_with(case.stock), "{}", case.seed);
-        assert!(rt;
-            planned(alloc, &desk)?.reports(case.report),
-            "{}",
-            case.seed
-        );
+        assert!(rt; is_made(rt.alloc(), case)?, "{}", case.seed);
     }
     Ok(())
+}
+
+// The same files stand on both desks.
+fn are_same(desk: &MemoryDesk, other: &MemoryDesk) -> bool {
+    for index in 0..4 {
+        if file_of(desk, index) != file_of(other, index) {
+            return false;
+        }
+    }
+    is_named(desk) && is_named(other)
 }
 
 // The seed is 1 where none is given, and what is made is the same each time.
@@ -112,45 +125,61 @@ fn seasons_are_made_again(rt: HostRuntime) -> Result<(), Fail> {
     let mut other = desk_of(alloc, &[])?;
     let answer = made(alloc, &["make", "out"], &mut desk)?;
     let again = made(alloc, &["make", "out", "--seed", "1"], &mut other)?;
-    assert!(rt; answer.reports(CASES[0].report) && again.reports(CASES[0].report));
-    assert!(rt; is_named(&desk) && is_named(&other));
-    for index in 0..4 {
-        assert!(rt; file_of(&desk, index) == file_of(&other, index), "{index}");
-    }
+    assert!(rt;
+        answer.reports(CASES[0].report) && again.reports(CASES[0].report) && are_same(&desk, &other)
+    );
     Ok(())
 }
 
-// Each file takes a call to be made and one to be written, but for demand.csv, which takes two to be written. Of a file that
-// fails a front stands.
+// The calls of a desk that fail, the files that stand then, the bytes of demand.csv, and the note. Each file takes a call to be
+// made and one to be written, but for demand.csv, which takes two to be written.
+const FAULTS: [(u64, usize, usize, &str); 5] = [
+    (1, 0, 0, "write fault: rules.json"),
+    (2, 1, 0, "write fault: rules.json"),
+    (3, 1, 0, "write fault: ladder.csv"),
+    (5, 2, 0, "write fault: stock.csv"),
+    (9, 4, 65_536, "write fault: demand.csv"),
+];
+
+// On this desk the making of a season fails: the note and so many files stand, and of each a front of what stands on `whole`.
+fn is_cut(
+    alloc: Global,
+    desk: &mut MemoryDesk,
+    whole: &MemoryDesk,
+    count: usize,
+    note: &str,
+) -> Result<bool, AllocError> {
+    let answer = made(alloc, &QUICK, desk)?;
+    for index in 0..4 {
+        if !file_of(whole, index).starts_with(file_of(desk, index)) {
+            return Ok(false);
+        }
+    }
+    Ok(answer.notes(Status::WriteFault, note) && desk.count() == count)
+}
+
+// The quick plan's report of a made season, and its files on the desk.
+fn is_made_quickly(alloc: Global, desk: &mut MemoryDesk) -> Result<bool, AllocError> {
+    let answer = made(alloc, &QUICK, desk)?;
+    let words = ["plan", "out", "--steps", "0", "--nodes", "0"];
+    let again = asked_of(alloc, &words, desk)?;
+    Ok(again.reports(answer.out.bytes()) && answer.status == Status::Ok && is_named(desk))
+}
+
 #[test]
 fn desks_fail_while_seasons_are_made(rt: HostRuntime) -> Result<(), Fail> {
     let alloc = rt.alloc();
     let mut whole = desk_of(alloc, &[10])?;
-    let answer = made(alloc, &QUICK, &mut whole)?;
-    assert!(rt; answer.status == Status::Ok && is_named(&whole));
-    for (call, count, note) in [
-        (1, 0, "write fault: rules.json"),
-        (2, 1, "write fault: rules.json"),
-        (3, 1, "write fault: ladder.csv"),
-        (5, 2, "write fault: stock.csv"),
-        (9, 4, "write fault: demand.csv"),
-    ] {
-        let mut desk = desk_of(alloc, &[call])?;
-        let answer = made(alloc, &QUICK, &mut desk)?;
-        assert!(rt; answer.notes(Status::WriteFault, note), "{call}");
-        assert!(rt; desk.count() == count, "{call}");
-        for index in 0..4 {
-            assert!(rt;
-                file_of(&whole, index).starts_with(file_of(&desk, index)),
-                "{call}"
-            );
-        }
-        assert!(rt; count < 4 || file_of(&desk, 3).len() == 65_536);
+    assert!(rt; is_made_quickly(alloc, &mut whole)?);
+    for (call, count, bytes, note) in &FAULTS {
+        let mut desk = desk_of(alloc, &[*call])?;
+        let is_told = is_cut(alloc, &mut desk, &whole, *count, *note)?;
+        assert!(rt; is_told && file_of(&desk, 3).len() == *bytes, "{call}");
     }
     // The room ends in the midst of demand.csv.
     let mut desk = MemoryDesk::new(alloc, 4, 1000, 65_536, Vec::new(alloc))?;
-    let answer = made(alloc, &QUICK, &mut desk)?;
-    assert!(rt; answer.notes(Status::WriteFault, "write fault: demand.csv") && desk.count() == 4);
+    let note = "write fault: demand.csv";
+    assert!(rt; is_cut(alloc, &mut desk, &whole, 4, note)?);
     Ok(())
 }
 

@@ -1,5 +1,5 @@
 // Rules and calendars: which path is printed, or that there is none; and chains of many stores.
-use crate::cases::{Files, NONE_FAILS, SMALLEST, asked_of, held, planned, run_on};
+use crate::cases::{Files, NONE_FAILS, SMALLEST, Said, asked_of, held, planned, run_on};
 use crate::certs::certify;
 use crate::ending::Status;
 use clr_io::{MemoryDesk, MemoryShelf};
@@ -118,21 +118,33 @@ const PATHS: [(&[u8], &[u8], &str); 18] = [
     ),
 ];
 
+// The plan with these rules and this calendar ends with the lines; where there are none, there is no path.
+fn is_answered<'a>(
+    alloc: Global,
+    rules: &'a [u8],
+    calendar: &'a [u8],
+    lines: &str,
+) -> Result<bool, AllocError> {
+    let files = Files {
+        rules,
+        calendar,
+        ..THREE
+    };
+    let answer = planned(alloc, files)?;
+    Ok(if lines.is_empty() {
+        answer.notes(Status::NoPath, "no path")
+    } else {
+        answer.ends_with(lines)
+    })
+}
+
 #[test]
 fn paths_obey(rt: HostRuntime) -> Result<(), Fail> {
-    let alloc = rt.alloc();
     for (index, (rules, calendar, lines)) in PATHS.iter().enumerate() {
-        let files = Files {
-            rules,
-            calendar,
-            ..THREE
-        };
-        let answer = planned(alloc, files)?;
-        if lines.is_empty() {
-            assert!(rt; answer.notes(Status::NoPath, "no path"), "{index}");
-        } else {
-            assert!(rt; answer.ends_with(lines), "{index}");
-        }
+        assert!(rt;
+            is_answered(rt.alloc(), *rules, *calendar, *lines)?,
+            "{index}"
+        );
     }
     Ok(())
 }
@@ -181,44 +193,58 @@ const TWO: Files<'static> = Files {
     demand: b"store,week,rung,units,weight\na,1,1,1,1\na,1,2,1,1\na,2,1,1,1\na,2,2,1,1\n",
 };
 
+// Files, and what is said of their plan.
+const CALENDARS: [(Files<'static>, Said); 4] = [
+    (
+        TWO,
+        Said::Report(
+            b"season 1 stores 2 weeks 2 rungs base 1\npath 2 2\nprices 6.00 6.00\nrevenue 6.00000000 6.00000000\nbest yes\nbound 6.00000000 step 0\ngap 0.00000000\nexact 6.00000000 6.00000000 first 2\n",
+        ),
+    ),
+    (
+        Files {
+            calendar: b"week,from,to,frozen\n1,2,12,0\n2,1,1,0\n",
+            demand: b"store,week,rung,units,weight\na,1,1,0,1\na,1,2,0,1\na,2,1,0,1\na,2,2,0,1\n",
+            ..TWO
+        },
+        Said::Note(Status::NoPath, "no path"),
+    ),
+    // A relabelling cost is paid in the one markdown week, though nothing is sold.
+    (
+        Files {
+            rules: b"{\"version\":2,\"weeks\":1,\"base\":1,\"calendar\":true}",
+            calendar: b"week,from,to,frozen\n1,2,12,0\n",
+            stock: b"store,units,salvage,relabel\na,0,0,3.00\n",
+            demand: b"store,week,rung,units,weight\na,1,1,0,1\na,1,2,0,1\n",
+            ..TWO
+        },
+        Said::Report(
+            b"season 1 stores 1 weeks 2 rungs base 1\npath 2\nprices 6.00\nrevenue -3.00000000 -3.00000000\nbest yes\nbound -3.00000000 step 0\ngap 0.00000000\nexact -3.00000000 -3.00000000 first 2\n",
+        ),
+    ),
+    (
+        Files {
+            calendar: b"week,from,to,frozen\n1,3,2,0\n",
+            ..TWO
+        },
+        Said::Note(
+            Status::Refused,
+            "refused: calendar.csv row 1 column to order",
+        ),
+    ),
+];
+
+// This is said of the plan of the files.
+fn is_said(alloc: Global, files: Files<'_>, said: &Said) -> Result<bool, AllocError> {
+    let answer = planned(alloc, files)?;
+    Ok(answer.says(said))
+}
+
 #[test]
 fn calendars_are_read(rt: HostRuntime) -> Result<(), Fail> {
-    let alloc = rt.alloc();
-    let first = planned(alloc, TWO)?;
-    assert!(rt;
-        first.reports(
-            b"season 1 stores 2 weeks 2 rungs base 1\npath 2 2\nprices 6.00 6.00\nrevenue 6.00000000 6.00000000\nbest yes\nbound 6.00000000 step 0\ngap 0.00000000\nexact 6.00000000 6.00000000 first 2\n"
-        )
-    );
-    let shut = Files {
-        calendar: b"week,from,to,frozen\n1,2,12,0\n2,1,1,0\n",
-        demand: b"store,week,rung,units,weight\na,1,1,0,1\na,1,2,0,1\na,2,1,0,1\na,2,2,0,1\n",
-        ..TWO
-    };
-    assert!(rt; planned(alloc, shut)?.notes(Status::NoPath, "no path"));
-    // A relabelling cost is paid in the one markdown week, though nothing is sold.
-    let costly = Files {
-        rules: b"{\"version\":2,\"weeks\":1,\"base\":1,\"calendar\":true}",
-        calendar: b"week,from,to,frozen\n1,2,12,0\n",
-        stock: b"store,units,salvage,relabel\na,0,0,3.00\n",
-        demand: b"store,week,rung,units,weight\na,1,1,0,1\na,1,2,0,1\n",
-        ..TWO
-    };
-    assert!(rt;
-        planned(alloc, costly)?.reports(
-            b"season 1 stores 1 weeks 2 rungs base 1\npath 2\nprices 6.00\nrevenue -3.00000000 -3.00000000\nbest yes\nbound -3.00000000 step 0\ngap 0.00000000\nexact -3.00000000 -3.00000000 first 2\n"
-        )
-    );
-    let order = Files {
-        calendar: b"week,from,to,frozen\n1,3,2,0\n",
-        ..TWO
-    };
-    assert!(rt;
-        planned(alloc, order)?.notes(
-            Status::Refused,
-            "refused: calendar.csv row 1 column to order"
-        )
-    );
+    for (index, (files, said)) in CALENDARS.iter().enumerate() {
+        assert!(rt; is_said(rt.alloc(), *files, said)?, "{index}");
+    }
     Ok(())
 }
 
@@ -244,38 +270,43 @@ fn no_demand(alloc: Global, stores: u32) -> Result<Vec<u8>, AllocError> {
     Ok(text)
 }
 
+// The stores of a chain, the units of the first, and the revenue; none where the cells are too many. There are 5 * 5 * 1 * 10 cells
+// for each of a store's stocks.
+const CHAINS: [(u32, u32, &str); 4] = [
+    (16, 1999, "319.84000000"),
+    (16, 2000, "319.85000000"),
+    (32, 1999, "639.68000000"),
+    (32, 2000, ""),
+];
+
+// The chain is planned with this revenue, or refused where there is none.
+fn fits(alloc: Global, stores: u32, first: u32, revenue: &str) -> Result<bool, AllocError> {
+    let stock = many_stores(alloc, stores, first)?;
+    let demand = no_demand(alloc, stores)?;
+    let files = Files {
+        rules: b"{\"weeks\":4,\"base\":1,\"markdowns\":0,\"spacing\":10}",
+        ladder: b"rung,price\n1,5.00\n2,4.00\n3,3.00\n4,2.00\n5,1.00\n",
+        stock: &stock,
+        demand: &demand,
+        ..SMALLEST
+    };
+    let answer = planned(alloc, files)?;
+    if revenue.is_empty() {
+        return Ok(answer.notes(Status::Limit, "limit: cells 16000250"));
+    }
+    let lines = format!(in alloc;
+        "path 1 1 1 1\nprices 5.00 5.00 5.00 5.00\nrevenue {revenue} {revenue}\nbest yes\nbound {revenue} step 0\ngap 0.00000000\n"
+    )?;
+    Ok(answer.ends_with(lines.as_str()))
+}
+
 #[test]
 fn chains_fit_their_cells(rt: HostRuntime) -> Result<(), Fail> {
-    let alloc = rt.alloc();
-    // 5 * 5 * 1 * 10 cells for each of a store's stocks.
-    let chains = [
-        (16, 1999, "319.84000000"),
-        (16, 2000, "319.85000000"),
-        (32, 1999, "639.68000000"),
-        (32, 2000, ""),
-    ];
-    for (stores, first, revenue) in chains {
-        let stock = many_stores(alloc, stores, first)?;
-        let demand = no_demand(alloc, stores)?;
-        let files = Files {
-            rules: b"{\"weeks\":4,\"base\":1,\"markdowns\":0,\"spacing\":10}",
-            ladder: b"rung,price\n1,5.00\n2,4.00\n3,3.00\n4,2.00\n5,1.00\n",
-            stock: &stock,
-            demand: &demand,
-            ..SMALLEST
-        };
-        let answer = planned(alloc, files)?;
-        if revenue.is_empty() {
-            assert!(rt;
-                answer.notes(Status::Limit, "limit: cells 16000250"),
-                "{stores}"
-            );
-        } else {
-            let lines = format!(in alloc;
-                "path 1 1 1 1\nprices 5.00 5.00 5.00 5.00\nrevenue {revenue} {revenue}\nbest yes\nbound {revenue} step 0\ngap 0.00000000\n"
-            )?;
-            assert!(rt; answer.ends_with(lines.as_str()), "{stores} {first}");
-        }
+    for (stores, first, revenue) in &CHAINS {
+        assert!(rt;
+            fits(rt.alloc(), *stores, *first, *revenue)?,
+            "{stores} {first}"
+        );
     }
     Ok(())
 }

@@ -2,7 +2,9 @@
 use crate::cases::{
     Files, SMALLEST, SMALLEST_REPORT, TWO_WEEKS, asked_of, planned, planned_on_disk,
 };
+use std::alloc::Global;
 use std::fs;
+use std::rt::Files as RealFiles;
 use std::test::Fail;
 
 // One week: on the first rung one store sells its unit and the other none, on the second both sell.
@@ -140,15 +142,27 @@ const SEASONS: [(Files<'static>, &[u8]); 15] = [
     ),
 ];
 
+// Over the memory and over a real folder, which is there, the plan of the files has this report.
+fn is_planned(
+    rt: &impl RealFiles,
+    alloc: Global,
+    folder: &str,
+    files: Files<'_>,
+    report: &[u8],
+) -> Result<bool, Fail> {
+    let told = planned(alloc, files)?;
+    let on_disk = planned_on_disk(rt, alloc, folder, files)?;
+    Ok(told.reports(report) && on_disk.reports(report))
+}
+
 #[test]
 fn seasons_are_planned(rt: HostRuntime) -> Result<(), Fail> {
-    let alloc = rt.alloc();
     fs::create_dir(&rt, "planned")?;
     for (index, (files, report)) in SEASONS.iter().enumerate() {
-        let told = planned(alloc, *files)?;
-        assert!(rt; told.reports(report), "{index}");
-        let on_disk = planned_on_disk(&rt, alloc, "planned", *files)?;
-        assert!(rt; on_disk.reports(report), "{index} on disk");
+        assert!(rt;
+            is_planned(&rt, rt.alloc(), "planned", *files, report)?,
+            "{index}"
+        );
     }
     Ok(())
 }

@@ -1,6 +1,6 @@
 // Certificates on shelves in memory, by reads of several lengths.
 use crate::seasons::{ADAPTIVE, TWO_STORES, answer_of, answer_on, cut_after, season_of, with_line};
-use clr_check::check_file;
+use clr_check::{Claims, check_file};
 use clr_io::MemoryShelf;
 use clr_season::Season;
 use std::alloc::{AllocError, Global};
@@ -27,18 +27,22 @@ fn is_answered(
     Ok(true)
 }
 
-// Whether a certificate is accepted, and claims what it says.
+// Whether these are the claims of the certificate.
+fn are_its_claims(claims: &Claims) -> bool {
+    claims.path.rungs() == [1, 2].as_slice()
+        && claims.low == 1_100_000_000
+        && claims.high == 1_100_000_000
+        && claims.bound == 1_150_000_000
+        && claims.exact == Some((1_150_000_000, 1_150_000_000))
+}
+
+// Whether the certificate is accepted, and claims what it says.
 fn is_claimed(alloc: Global, season: &Season) -> Result<bool, AllocError> {
     let mut files = Vec::new(alloc);
     files.push((String::from_str(alloc, "c")?, with_line(alloc, 0, b"")?))?;
     let mut shelf = MemoryShelf::new(files, 16, Vec::new(alloc));
     Ok(match check_file(alloc, season, &mut shelf, "c") {
-        Ok(claims) => {
-            claims.path.rungs() == [1, 2].as_slice()
-                && (claims.low, claims.high) == (1_100_000_000, 1_100_000_000)
-                && claims.bound == 1_150_000_000
-                && claims.exact == Some((1_150_000_000, 1_150_000_000))
-        }
+        Ok(claims) => are_its_claims(&claims),
         Err(_) => false,
     })
 }

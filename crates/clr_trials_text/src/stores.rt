@@ -116,11 +116,13 @@ fn most_stores(rt: HostRuntime) -> Result<(), Fail> {
     let bytes = file.as_bytes();
     assert!(rt; bytes.len() <= 33_554_432);
     let stock = read_stock(rt.alloc(), bytes, false)?;
-    assert_eq!(rt; stock.len(), 64);
-    assert_eq!(rt; stock.names().get(64), "s63");
-    assert_eq!(rt; stock.units(64), 2000);
-    assert_eq!(rt; stock.salvage(64), 10_000_000);
-    assert_eq!(rt; stock.relabel(64), 0);
+    assert!(rt;
+        stock.len() == 64
+            && stock.names().get(64) == "s63"
+            && stock.units(64) == 2000
+            && stock.salvage(64) == 10_000_000
+            && stock.relabel(64) == 0
+    );
     Ok(())
 }
 
@@ -171,10 +173,12 @@ fn costs_of_relabelling(rt: HostRuntime) -> Result<(), Fail> {
         Some(refused(0, 0, Why::Header))
     );
     let stock = read_stock(rt.alloc(), text, true)?;
-    assert_eq!(rt; stock.len(), 2);
-    assert_eq!(rt; stock.names().find(b"c"), Some(2));
-    assert_eq!(rt; stock.relabel(1), 10_000_000);
-    assert_eq!(rt; stock.salvage(2), 50);
-    assert_eq!(rt; stock.relabel(2), 1234);
+    assert!(rt;
+        stock.len() == 2
+            && stock.names().find(b"c") == Some(2)
+            && stock.relabel(1) == 10_000_000
+            && stock.salvage(2) == 50
+            && stock.relabel(2) == 1234
+    );
     Ok(())
 }

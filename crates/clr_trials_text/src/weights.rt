@@ -132,15 +132,24 @@ fn weights_are_read(rt: HostRuntime) -> Result<(), Fail> {
         "\u{feff}store , week,rung\t,units,weight\r\n b ,1,1,2,4\r\na,01,1,0,1\r\n\r\n\"a\",1,1,1, 3";
     assert!(rt; text.len() <= 200);
     let demand = read_demand(rt.alloc(), text.as_bytes(), &names, 1, 1, 4, false)?;
-    assert_eq!(rt; demand.top(), 2);
-    assert_eq!(rt; demand.weights(1, 1, 1), [1, 3, 0].as_slice());
-    assert_eq!(rt; demand.weights(2, 1, 1), [0, 0, 4].as_slice());
-    for (units, weight, tail) in [(0, 1, 4), (1, 3, 3), (2, 0, 0)] {
-        assert_eq!(rt; demand.weight(1, 1, 1, units), weight, "{units}");
-        assert_eq!(rt; demand.tail(1, 1, 1, units), tail, "{units}");
-    }
-    assert_eq!(rt; demand.tail(2, 1, 1, 2), 4);
-    assert_eq!(rt; demand.tail(2, 1, 1, 3), 0);
+    assert!(rt;
+        demand.top() == 2
+            && demand.weights(1, 1, 1) == [1, 3, 0].as_slice()
+            && demand.weights(2, 1, 1) == [0, 0, 4].as_slice()
+    );
+    let weights = [
+        demand.weight(1, 1, 1, 0),
+        demand.weight(1, 1, 1, 1),
+        demand.weight(1, 1, 1, 2),
+    ];
+    let tails = [
+        demand.tail(1, 1, 1, 0),
+        demand.tail(1, 1, 1, 1),
+        demand.tail(1, 1, 1, 2),
+        demand.tail(2, 1, 1, 2),
+        demand.tail(2, 1, 1, 3),
+    ];
+    assert!(rt; weights == [1, 3, 0] && tails == [4, 3, 0, 4, 0]);
     Ok(())
 }
 
@@ -151,19 +160,20 @@ fn weights_stand_by_store_week_and_rung(rt: HostRuntime) -> Result<(), Fail> {
         "store,week,rung,units,weight\nb,2,2,0,8\nb,2,1,0,7\nb,1,2,0,6\nb,1,1,0,5\na,2,2,0,4\na,2,1,0,3\na,1,2,0,2\na,1,1,0,1\na,1,1,1,7\na,1,2,1,6\na,2,1,1,5\na,2,2,1,4\nb,1,1,1,3\nb,1,2,1,2\nb,2,1,1,1\n";
     assert!(rt; text.len() <= 300);
     let demand = read_demand(rt.alloc(), text.as_bytes(), &names, 2, 2, 8, false)?;
-    let mut weight = 1;
+    let mut weights = Vec::new(rt.alloc());
+    let mut tails = Vec::new(rt.alloc());
     for store in 1..3 {
         for week in 1..3 {
             for rung in 1..3 {
-                assert_eq!(rt; demand.weight(store, week, rung, 0), weight);
-                assert_eq!(rt;
-                    demand.tail(store, week, rung, 1).checked_add(weight),
-                    Some(8)
-                );
-                weight += 1;
+                weights.push(demand.weight(store, week, rung, 0))?;
+                tails.push(demand.tail(store, week, rung, 1))?;
             }
         }
     }
+    assert!(rt;
+        weights.as_slice() == [1, 2, 3, 4, 5, 6, 7, 8].as_slice()
+            && tails.as_slice() == [7, 6, 5, 4, 3, 2, 1, 0].as_slice()
+    );
     Ok(())
 }
 
@@ -173,9 +183,11 @@ fn weights_are_scaled(rt: HostRuntime) -> Result<(), Fail> {
     let text = "store,week,rung,units,weight\na,1,1,0,1\na,1,1,1,3\nb,1,1,1,12\n";
     assert!(rt; text.len() <= 100);
     let demand = read_demand(rt.alloc(), text.as_bytes(), &names, 1, 1, 12, true)?;
-    assert_eq!(rt; demand.weights(1, 1, 1), [3, 9].as_slice());
-    assert_eq!(rt; demand.weights(2, 1, 1), [0, 12].as_slice());
-    assert_eq!(rt; demand.tail(1, 1, 1, 1), 9);
+    assert!(rt;
+        demand.weights(1, 1, 1) == [3, 9].as_slice()
+            && demand.weights(2, 1, 1) == [0, 12].as_slice()
+            && demand.tail(1, 1, 1, 1) == 9
+    );
     let found = read_demand(rt.alloc(), text.as_bytes(), &names, 1, 1, 12, false).err();
     assert_eq!(rt; found, Some(total(1, 1, 1, 4)));
     let cases = [

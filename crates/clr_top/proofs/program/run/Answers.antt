@@ -1,8 +1,8 @@
-use Rattle.std.proofs.Common.{◌≡◌, ◌∙◌, inr, sym, subst, refl, map, string_bytes, Some}
+use Rattle.std.proofs.Common.{◌≡◌, ◌∙◌, inl, inr, sym, subst, refl, map, string_bytes, Some}
 use Rattle.std.specs.Prelude.{◌⊎◌, IfSome}
 use Rattle.clr_top.specs.declared.ending.Status.TheVariants as s
 use Rattle.clr_top.specs.Runs.{Exactly, docs_asked, ending_asked}
-use Rattle.clr_top.proofs.Ends.{exactly-ok, exactly-told, makes-caused, only-memory, read-caused, words-caused, write-caused}
+use Rattle.clr_top.proofs.Ends.{exactly-ok, exactly-told, makes-caused, ok-no-read, ok-no-words, ok-no-write, only-memory, read-caused, words-caused, write-caused}
 use Rattle.clr_top.proofs.program.run.Goals as goal
 
 pub returns-in-Ok-clause-exact : goal.returns-in-Ok-clause-exact
@@ -37,3 +37,24 @@ returns-in-Err-clause-complete g c = λ held told passes calm_shelf calm_desk ca
 
 pub returns-in-Err-clause-caused : goal.returns-in-Err-clause-caused
 returns-in-Err-clause-caused g c = λ other. (c.in-Err.ending, c.ending_status.ensures, c.in-Err.ensures.caused c.in-Err.ending refl, c.in-Err.ensures.leaves c.in-Err.ending refl, c.write_note.ensures.notes)
+
+pub returns-in-Ok-clause-caused : goal.returns-in-Ok-clause-caused
+returns-in-Ok-clause-caused g c = λ other. absurd (other refl)
+
+pub returns-in-Ok-clause-makes : goal.returns-in-Ok-clause-makes
+returns-in-Ok-clause-makes g c = λ makes. inl refl
+
+pub returns-in-Ok-clause-quiet : goal.returns-in-Ok-clause-quiet
+returns-in-Ok-clause-quiet g c = λ other unwritten. absurd (other refl)
+
+pub returns-in-Ok-clause-complete : goal.returns-in-Ok-clause-complete
+returns-in-Ok-clause-complete g c = λ held told passes calm_shelf calm_desk calm_out. inl refl
+
+pub returns-in-Ok-clause-read : goal.returns-in-Ok-clause-read
+returns-in-Ok-clause-read g c = λ is. absurd (ok-no-read is)
+
+pub returns-in-Ok-clause-write : goal.returns-in-Ok-clause-write
+returns-in-Ok-clause-write g c = λ is. absurd (ok-no-write is)
+
+pub returns-in-Ok-clause-words : goal.returns-in-Ok-clause-words
+returns-in-Ok-clause-words g c = λ is. absurd (ok-no-words is)
