@@ -8,6 +8,7 @@ use Rattle.clr_model.specs.Fits.{fits}
 use Rattle.clr_model.specs.JointValue.{season_tree}
 use Rattle.clr_model.specs.Policies.{Tree}
 use Rattle.clr_rules.specs.Rules.{summary}
+use Rattle.clr_cert.specs.declared.claims.Claims.{Claims}
 use Rattle.clr_cert.specs.declared.place.Place.{Place}
 use Rattle.clr_cert.specs.declared.place.Place.TheVariants.{Revenue, Bound, Exact}
 use Rattle.clr_cert.specs.declared.no.No.{No}
@@ -41,6 +42,10 @@ pub record CertClaims : Type 0 where
   pub high : ℤ
   pub bound : ℤ
   pub exact : Option (ℤ × ℤ)
+
+-- what claims are seen as
+abbrev pub claims_of : Claims → CertClaims
+claims_of claims = record { path = claims.path; low = claims.low; high = claims.high; bound = claims.bound; exact = claims.exact }
 
 abbrev pub claims_in : Season → List (List ℕ) → CertClaims
 claims_in season lines = record {

@@ -4,6 +4,7 @@
 //! has 10^6.
 #![tactic(auto)]
 
+mod claims;
 mod counts;
 mod entries;
 mod keys;
@@ -16,6 +17,7 @@ mod stocks;
 mod totals;
 mod write;
 
+pub use claims::Claims;
 pub use counts::line_count;
 pub use entries::Entries;
 pub use line_buffer::LineBuffer;

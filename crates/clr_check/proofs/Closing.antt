@@ -13,15 +13,15 @@ use Rattle.clr_cert.specs.declared.place.Place.{Place}
 use Rattle.clr_cert.specs.declared.place.Place.TheVariants.{Head, Path, Revenue, Bound, Exact, End}
 use Rattle.clr_cert.specs.declared.no.No.{No}
 use Rattle.clr_cert.specs.declared.no.NoKind.TheVariants.{Extra, Form, Short}
-use Rattle.clr_cert.specs.Accepts.{CertClaims, claims_in, end_no, first_no, lines_no, plain_no}
+use Rattle.clr_cert.specs.Accepts.{CertClaims, claims_in, claims_of, end_no, first_no, lines_no, plain_no}
 use Rattle.clr_cert.specs.Conditions.{path_of}
 use Rattle.clr_cert.specs.Places.{places, walk, week_numbers}
 use Rattle.clr_cert.specs.Reading.{entries_in, most_line, row_of, told}
-use Rattle.clr_check.specs.declared.claims.Rest.{Rest}
-use Rattle.clr_check.specs.declared.claims.Rest.TheVariants.{Nothing, Few, Many}
+use Rattle.clr_check.specs.declared.rest.Rest.{Rest}
+use Rattle.clr_check.specs.declared.rest.Rest.TheVariants.{Nothing, Few, Many}
 use Rattle.clr_check.specs.declared.tables.Tables.{Tables}
-use Rattle.clr_check.specs.declared.claims.Claims.{Claims}
-use Rattle.clr_check.specs.Standing.{IsClaimOf, claims_of, AreKept, IsHeld, IsKept, IsLine, IsRest, Kept, Keeps, Stands, ended_text, is_end, kept_claims, kind_at_end}
+use Rattle.clr_cert.specs.declared.claims.Claims.{Claims}
+use Rattle.clr_check.specs.Standing.{IsClaimOf, AreKept, IsHeld, IsKept, IsLine, IsRest, Kept, Keeps, Stands, ended_text, is_end, kept_claims, kind_at_end}
 use Rattle.clr_cert.proofs.Among.{Among, bound_place, exact_place, path_place, revenue_place, row_is}
 use Rattle.clr_check.proofs.Ending.{ended_are, unended_is}
 use Rattle.clr_check.proofs.Refused.{accepted_or_refused_lem}

@@ -1,16 +1,17 @@
 -- What the answers of the checking say of the file.
-use Rattle.std.proofs.Common.{◌≡◌, ◌↔◌, ℕ, true, false, List, [], ◌++◌, refl, ap, sym, ◌∙◌, subst}
-use Rattle.std.specs.Prelude.{Option, Some, None, IfSome, IsErrOf, IsOk, IsSomeAnd, Ok, Err}
+use Rattle.std.proofs.Common.{◌≡◌, ◌↔◌, ℕ, Bool, true, false, List, [], ◌++◌, refl, ap, sym, ◌∙◌, subst}
+use Rattle.std.specs.Prelude.{Option, Some, None, IfSome, IsErrOf, IfOk, IsOk, IsSomeAnd, Ok, Err, Result}
 use Rattle.clr_io.specs.Files.{Files, Opens, held}
 use Rattle.clr_io.specs.declared.fault.Failed.{Failed}
 use Rattle.clr_cert.specs.Accepts.{Accepts, cert_claims, first_no}
 use Rattle.clr_cert.specs.declared.no.No.{No}
 use Rattle.clr_season.specs.Season.{Season}
-use Rattle.clr_check.specs.FileChecks.{IsProved}
+use Rattle.clr_check.specs.FileChecks.{IsFedFile, IsFedWhole, IsProved}
 use Rattle.clr_check.specs.Laws.{AcceptedOrRefused, ClaimsHold}
-use Rattle.clr_check.specs.Standing.{IsClaimOf}
-use Rattle.clr_check.specs.declared.claims.Claims.{Claims}
+use Rattle.clr_check.specs.Standing.{IsClaimOf, Kept, Stands, ended_text}
+use Rattle.clr_cert.specs.declared.claims.Claims.{Claims}
 use Rattle.clr_check.specs.declared.file.CheckError.{CheckError}
+use Rattle.clr_check.specs.declared.rest.Rest.{Rest}
 use Rattle.clr_check.specs.declared.file.CheckError.TheVariants as c
 
 held_all : (P : List ℕ → Type 0) (given rest : Option (List ℕ)) → IsSomeAnd given (λ bytes. rest ≡ Some bytes) → IfSome rest P → IsSomeAnd given P
@@ -31,6 +32,15 @@ held_is bytes (Some b) h = ap (λ (l : List ℕ). Some l) h
 pub opened_is : (bytes : List ℕ) (files : Option Files) (name : List ℕ) (rest : Option (List ℕ)) → Opens {E = Failed} files name (Ok true) rest → IfSome rest (λ behind. [] ++ behind ≡ bytes) → IfSome files (λ all. held name all ≡ Some bytes)
 opened_is bytes None name rest opened all = tt
 opened_is bytes (Some files) name rest opened all = held_is bytes (held name files) (held_all (λ b. b ≡ bytes) (held name files) rest opened all)
+
+-- all bytes to come of a file that was opened are its bytes
+pub fed_file : (result : Result Rest CheckError) (files : Option Files) (name : List ℕ) (rest : Option (List ℕ)) (found : Bool) (given : List ℕ) (before after : Kept) → Opens {E = Failed} files name (Ok found) rest → found ≡ true → given ≡ [] →
+    IfOk result (λ kind. (season : Season) (fed : List (List ℕ)) → Stands season fed before → IsFedWhole season fed given rest after kind) → IfOk result (λ kind. (season : Season) → Stands season [] before → IsFedFile season files name after kind)
+fed_file (Ok kind) files name rest found given before after opens is_found none fed = λ season stands.
+    let opened : Opens {E = Failed} files name (Ok true) rest = subst (λ (b : Bool). Opens {E = Failed} files name (Ok b) rest) is_found opens in
+    let whole : IsFedWhole season [] [] rest after kind = subst (λ (l : List ℕ). IsFedWhole season [] l rest after kind) none (fed season [] stands) in
+    record { more = whole.more; last = whole.last; stands = whole.stands; line = whole.line; ends = whole.ends; is = opened_is (ended_text whole.more ++ whole.last) files name rest opened whole.is }
+fed_file (Err error) files name rest found given before after opens is_found none fed = tt
 
 held_of : (P : List ℕ → Type 0) (bytes : List ℕ) (given : Option (List ℕ)) → given ≡ Some bytes → P bytes → IsSomeAnd given P
 held_of P bytes given is p = rw is p

@@ -12,14 +12,14 @@ use Rattle.clr_cert.specs.declared.no.No.{No}
 use Rattle.clr_cert.specs.declared.no.NoKind.{NoKind}
 use Rattle.clr_cert.specs.declared.no.NoKind.TheVariants.{Extra, Form, Short}
 use Rattle.clr_check.specs.declared.faults.Fault.{Fault}
-use Rattle.clr_cert.specs.Accepts.{Accepts, CertClaims, cert_claims, lines_no}
+use Rattle.clr_cert.specs.Accepts.{Accepts, CertClaims, cert_claims, claims_of, lines_no}
 use Rattle.clr_cert.specs.Entries.{most_entry, most_mult}
 use Rattle.clr_cert.specs.Places.{places, walk}
 use Rattle.clr_cert.specs.Reading.{most_line, numbers_told, told}
 use Rattle.clr_check.specs.Rows.{AreRowsOf, kept_at}
-use Rattle.clr_check.specs.declared.claims.Claims.{Claims}
-use Rattle.clr_check.specs.declared.claims.Rest.{Rest}
-use Rattle.clr_check.specs.declared.claims.Rest.TheVariants.{Nothing, Few, Many}
+use Rattle.clr_cert.specs.declared.claims.Claims.{Claims}
+use Rattle.clr_check.specs.declared.rest.Rest.{Rest}
+use Rattle.clr_check.specs.declared.rest.Rest.TheVariants.{Nothing, Few, Many}
 use Rattle.clr_check.specs.declared.tables.Tables.{Tables}
 
 -- ---- lines
@@ -147,9 +147,6 @@ abbrev pub no_at : ℕ → Fault → No
 no_at row fault = record { row = row + 1; kind = fault.kind; left = fault.left; right = fault.right }
 
 -- ---- what is claimed
-
-abbrev pub claims_of : Claims → CertClaims
-claims_of claims = record { path = claims.path; low = claims.low; high = claims.high; bound = claims.bound; exact = claims.exact }
 
 -- what a checker claims once all lines have come
 abbrev pub kept_claims : Kept → CertClaims

@@ -1,15 +1,15 @@
 // The checker of a certificate, line by line.
-ghost use Rattle.clr_cert.specs.Accepts.{first_no, lines_no};
+ghost use Rattle.clr_cert.specs.Accepts.{claims_of, first_no, lines_no};
 ghost use Rattle.clr_cert.specs.Reading.{most_line};
-ghost use Rattle.clr_check.specs.Standing.{IsClaimOf, IsLine, IsRest, Stands, claims_of, ended_text, is_end, kept_claims, kind_at_end, no_at, refused};
+ghost use Rattle.clr_check.specs.Standing.{IsClaimOf, IsLine, IsRest, Stands, ended_text, is_end, kept_claims, kind_at_end, no_at, refused};
 ghost use Rattle.clr_season.specs.Season.{Season};
 ghost use Rattle.std.specs.Prelude.{◌≡◌, ℕ, ◌<◌, List, [], ◌∷◌, ◌++◌, length, Some, None, Err, IfOk, MatchResult};
 
-use crate::claims::{Claims, Rest};
 use crate::faults::Fault;
+use crate::rest::Rest;
 use crate::tables::Tables;
 use crate::taking::{plain, take_line};
-use clr_cert::{LineBuffer, No, NoKind, Place};
+use clr_cert::{Claims, LineBuffer, No, NoKind, Place};
 use clr_model::fits;
 use clr_rules::Live;
 use clr_season::Season;

@@ -1,18 +1,18 @@
 // The certificate of a file, which is checked while it is read.
 ghost use Rattle.clr_cert.specs.Accepts.{Accepts, cert_claims, first_no};
 ghost use Rattle.clr_cert.specs.declared.no.No.{No};
-ghost use Rattle.clr_check.specs.FileChecks.{IsFedWhole, IsJudged, IsOfReading, IsProved, rest_by};
+ghost use Rattle.clr_check.specs.FileChecks.{IsFedFile, IsFedWhole, IsJudged, IsOfFile, IsOfReading, IsProved, rest_by};
 ghost use Rattle.clr_check.specs.Laws.{ClaimsHold};
 ghost use Rattle.clr_check.specs.Standing.{Stands};
 ghost use Rattle.clr_io.specs.Causes.{Rose};
 ghost use Rattle.clr_io.specs.Files.{held};
 ghost use Rattle.clr_season.specs.Season.{Season};
-ghost use Rattle.std.specs.Prelude.{◌≡◌, ℕ, ◌+◌, ◌++◌, ◌<◌, ◌≤◌, ◌↔◌, false, length, List, None, Some, IfOk, IfSome, IsErrOf, IsOk, IsSomeAnd};
+ghost use Rattle.std.specs.Prelude.{◌≡◌, ℕ, ◌+◌, ◌++◌, ◌<◌, ◌≤◌, ◌↔◌, false, length, List, [], None, Some, IfOk, IfSome, IsErrOf, IsOk, IsSomeAnd};
 
 use crate::checker::Checker;
-use crate::claims::{Claims, Rest};
 use crate::laws::{accepted_claims_hold, accepted_or_refused};
-use clr_cert::No;
+use crate::rest::Rest;
+use clr_cert::{Claims, No};
 use clr_io::{Line, Lines, Shelf};
 use clr_season::Season;
 use std::alloc::Global;
@@ -95,6 +95,33 @@ fn feed_all<H: Shelf>(
     }
 }
 
+// Opens the file and feeds the checker all its lines, and tells what stands behind the last.
+fn feed_file<H: Shelf>(
+    checker: &mut Checker,
+    lines: &mut Lines,
+    shelf: &mut H,
+    name: &str,
+) -> Result<Rest, CheckError>
+    requires start { (lines.old.taken ≡ 0) × (lines.old.held ≡ []) × (lines.old.ended ≡ false) }
+    requires limits { (lines.old.longest ≡ 65_536) × (lines.old.max ≡ 268_435_456) }
+    ensures fed { IfOk result (λ rest. (season : Season) → Stands season [] checker.old → IsFedFile season (H.files shelf.old) name.now checker.new rest) }
+    ensures read { IfOk result (λ _. IfSome (H.files shelf.old) (λ files. IsSomeAnd (held name.now files) (λ bytes. H.taken shelf.new ≡ length bytes))) }
+    ensures answers { IsOfFile result }
+    ensures failed { IsErrOf result CheckError.Failed → Rose (H.faults shelf.old) (H.faults shelf.new) }
+    ensures absent { IfSome (H.files shelf.old) (λ files. IsErrOf result CheckError.Absent ↔ ((held name.now files ≡ None) × (¬ IsErrOf result CheckError.Failed))) }
+    ensures too_long { IsErrOf result (CheckError.TooLong 268_435_456) ↔ (268_435_456 < H.taken shelf.new) }
+    ensures longer { IsErrOf result (CheckError.TooLong 268_435_456) → IfSome (H.files shelf.old) (λ files. IsSomeAnd (held name.now files) (λ bytes. 268_435_456 < length bytes)) }
+    ensures no_fault { IsErrOf result CheckError.Absent → H.faults shelf.new ≡ H.faults shelf.old }
+    ensures files { H.files shelf.new ≡ H.files shelf.old }
+    ensures later { H.faults shelf.old ≤ H.faults shelf.new }
+{
+    match shelf.open(name) {
+        Ok(true) => feed_all(checker, lines, shelf),
+        Ok(false) => Err(CheckError::Absent),
+        Err(_) => Err(CheckError::Failed),
+    }
+}
+
 // Whatever certificate of a season is accepted, its claims hold.
 fn accepted_hold(season: &Season)
     ensures { (bytes : List ℕ) → Accepts season.now bytes → ClaimsHold season.now bytes (cert_claims season.now bytes) }
@@ -144,12 +171,7 @@ pub fn check_file<H: Shelf>(
         Ok(checker) => checker,
         Err(_) => return Err(CheckError::Memory),
     };
-    match shelf.open(name) {
-        Ok(true) => {}
-        Ok(false) => return Err(CheckError::Absent),
-        Err(_) => return Err(CheckError::Failed),
-    }
-    let rest = feed_all(&mut checker, &mut lines, shelf)?;
+    let rest = feed_file(&mut checker, &mut lines, shelf, name)?;
     accepted_hold(season);
     accepted_or_refused();
     match checker.finish(rest) {

@@ -5,7 +5,6 @@
 #![tactic(auto)]
 
 mod checker;
-mod claims;
 mod conditions;
 mod faults;
 mod fields;
@@ -16,12 +15,13 @@ mod keeping;
 mod laws;
 mod number_rows;
 mod reading;
+mod rest;
 mod tables;
 mod taking;
 mod values;
 mod week;
 
 pub use checker::Checker;
-pub use claims::Claims;
+pub use clr_cert::Claims;
 pub use file::{CheckError, check_file};
 pub use laws::{accepted_claims_hold, accepted_or_refused};

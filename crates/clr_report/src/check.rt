@@ -1,7 +1,7 @@
 //! The check report.
 #![tactic(auto, unfolding(crate::specs::CheckText::check_text))]
 
-ghost use Rattle.clr_check.specs.Standing.{claims_of};
+ghost use Rattle.clr_cert.specs.Accepts.{claims_of};
 ghost use Rattle.clr_num.specs.Money.{money_text};
 ghost use Rattle.clr_report.specs.CheckText.{accepted_line, check_text, claimed_bound_line, claimed_exact_line};
 ghost use Rattle.clr_report.specs.PlanText.{season_line, sizes_of};
@@ -9,7 +9,7 @@ ghost use Rattle.clr_rules.specs.Rules.{IsPath};
 ghost use Rattle.std.specs.Prelude.{◌≡◌, ◌++◌, IfOk, OnOk, Some};
 
 use crate::plan::{print_amount, print_revenue, print_season, print_weeks, sizes_of};
-use clr_check::Claims;
+use clr_cert::Claims;
 use clr_season::Season;
 use std::alloc::{AllocError, Global};
 

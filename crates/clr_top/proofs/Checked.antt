@@ -7,12 +7,11 @@ use Rattle.clr_io.specs.Files.{Files, held}
 use Rattle.clr_rules.specs.Rules.{IsPath, Rulebook, are_rungs, keeps_rules, obeys}
 use Rattle.clr_season.specs.Season.{Season}
 use Rattle.clr_words.specs.Asked.{Ask}
-use Rattle.clr_cert.specs.Accepts.{Accepts, first_no}
+use Rattle.clr_cert.specs.Accepts.{Accepts, claims_of, first_no}
 use Rattle.clr_cert.specs.declared.no.No.{No}
 use Rattle.clr_check.specs.FileChecks.{IsJudged, IsProved}
 use Rattle.clr_check.specs.Laws.{AcceptedOrRefused}
-use Rattle.clr_check.specs.Standing.{claims_of}
-use Rattle.clr_check.specs.declared.claims.Claims.{Claims}
+use Rattle.clr_cert.specs.declared.claims.Claims.{Claims}
 use Rattle.clr_check.specs.declared.file.CheckError.{CheckError}
 use Rattle.clr_check.specs.declared.file.CheckError.TheVariants as c
 use Rattle.clr_report.specs.CheckText.{check_text}

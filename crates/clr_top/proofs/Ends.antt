@@ -8,6 +8,9 @@ use Rattle.clr_words.specs.declared.asked.Job.TheVariants as j
 use Rattle.clr_rules.specs.FirstPath.{NoPathObeys, SomePathObeys}
 use Rattle.clr_rules.specs.Rules.{Rulebook, is_live}
 use Rattle.clr_rules.proofs.FirstPaths.{some_or_none_obeys_lem}
+use Rattle.clr_cert.specs.Accepts.{Accepts}
+use Rattle.clr_cert.specs.Entries.{CertEntries}
+use Rattle.clr_cert.specs.Lines.{cert_text}
 use Rattle.clr_season.specs.Reads.{Stop, absent, refused, season_in, too_long, too_many_cells}
 use Rattle.clr_season.specs.Season.{IsSeason, Season}
 use Rattle.clr_season.specs.declared.reads.SeasonError.TheVariants as e
@@ -17,12 +20,16 @@ use Rattle.clr_report.specs.declared.note.Cause.{Cause}
 use Rattle.clr_top.specs.declared.ending.Status.{Status}
 use Rattle.clr_top.specs.declared.ending.Status.TheVariants as s
 use Rattle.clr_top.specs.Outputs.{Fails, Outputs}
-use Rattle.clr_top.specs.Plans.{PlanGives}
+use Rattle.clr_top.specs.Plans.{IsPlanText, PlanGives, cert_files}
 use Rattle.clr_top.specs.Runs.{ByFiles, Caused, EndsBefore, Exactly, Gives, GivesBy, IsSeasonError, MakesSeason, OfSeason, ReadEnds, ReadsSeason, docs_asked, ending_asked, ends_by, job_ends, plan_ends, season_ends, status_of, stopped}
 
 -- an error that was handed on
 pub same-error : {X : Type 0} (error ending : Cause) → IsErrOf {T = X} {E = Cause} (Err error) ending → error ≡ ending
 same-error error ending is = cc
+
+-- an error is that of its own result
+pub given-error : {X : Type 0} (error : Cause) → IsErrOf {T = X} {E = Cause} (Err error) error
+given-error error = refl
 
 -- ---- by an error of the season
 
@@ -83,6 +90,11 @@ plan-passes (Some held) ask season plan is some = rw plan (plan-lives (season_in
 -- and gives those of its season
 pub plan-gives : (files : Option Files) (ask : Ask) (outputs : Outputs) → ask.job ≡ j.Plan → OfSeason files ask (λ season. PlanGives season ask outputs) → Gives files ask outputs
 plan-gives files ask outputs plan gives = subst (λ job. GivesBy job files ask outputs) (sym plan) gives
+
+-- what is written of a season's plan
+pub plan-written : (files : Option Files) (ask : Ask) (season : Season) (entries : CertEntries) (text : List ℕ) → ask.job ≡ j.Plan → IfSome files (λ held. season_in held ask.folder ≡ Ok season) → IsSeason season →
+    Accepts season (cert_text season entries) → IsPlanText season ask entries text → Gives files ask (record { made = cert_files ask.cert (cert_text season entries); report = text })
+plan-written files ask season entries text plan is facts accepted told = plan-gives files ask _ plan (season, is, facts, (entries, refl, accepted, told))
 
 -- ---- with the words
 

@@ -1,5 +1,5 @@
 -- How runs end by a further file that is read behind the season, and what they give where it is read.
-use Rattle.std.proofs.Common.{◌≡◌, inr, arith, refl, sym, subst, ◌∙◌, ℕ, ◌≤◌, [], Some, None}
+use Rattle.std.proofs.Common.{◌≡◌, inr, arith, refl, sym, subst, ◌∙◌, ℕ, ◌≤◌, List, [], Some, None}
 use Rattle.std.specs.Prelude.{◌≢◌, IfSome, Option, Ok}
 use Rattle.clr_io.specs.Causes.{Rose}
 use Rattle.clr_io.specs.Files.{Files}
@@ -69,6 +69,11 @@ judge-behind held ask season of is = subst (λ job. job_ends job held ask ≡ ju
 pub judge-gives : (files : Option Files) (ask : Ask) (outputs : Outputs) → ask.job ≡ j.Judge → OfSeason files ask (λ season. (outputs.made ≡ []) × JudgeReports files season ask outputs.report) → Gives files ask outputs
 judge-gives files ask outputs judge gives = subst (λ job. GivesBy job files ask outputs) (sym judge) gives
 
+-- what is written of a policy, by the files of the shelf as they were before its season was read
+pub judge-written : (files told : Option Files) (ask : Ask) (season : Season) (text : List ℕ) → told ≡ files → ask.job ≡ j.Judge → IfSome files (λ held. season_in held ask.folder ≡ Ok season) → IsSeason season →
+    JudgeReports told season ask text → Gives files ask (record { made = []; report = text })
+judge-written files told ask season text same judge is facts reports = judge-gives files ask _ judge (season, is, facts, (refl, subst (λ f. JudgeReports f season ask text) same reports))
+
 -- ---- check
 
 pub check-behind : EndsBehind j.Check check_ends
@@ -76,3 +81,8 @@ check-behind held ask season of is = subst (λ job. job_ends job held ask ≡ ch
 
 pub check-gives : (files : Option Files) (ask : Ask) (outputs : Outputs) → ask.job ≡ j.Check → OfSeason files ask (λ season. (outputs.made ≡ []) × CheckReports files season ask outputs.report) → Gives files ask outputs
 check-gives files ask outputs check gives = subst (λ job. GivesBy job files ask outputs) (sym check) gives
+
+-- what is written of a certificate, by the files of the shelf as they were before its season was read
+pub check-written : (files told : Option Files) (ask : Ask) (season : Season) (text : List ℕ) → told ≡ files → ask.job ≡ j.Check → IfSome files (λ held. season_in held ask.folder ≡ Ok season) → IsSeason season →
+    CheckReports told season ask text → Gives files ask (record { made = []; report = text })
+check-written files told ask season text same check is facts reports = check-gives files ask _ check (season, is, facts, (refl, subst (λ f. CheckReports f season ask text) same reports))

@@ -1,7 +1,7 @@
 // The report on the certificate of a season.
 ghost use Rattle.std.specs.Prelude.{◌≡◌, ◌≤◌, ℕ, IfOk, IfSome, IsErrOf, List, None, Some, string_bytes};
+ghost use Rattle.clr_cert.specs.Accepts.{claims_of};
 ghost use Rattle.clr_check.specs.FileChecks.{IsProved};
-ghost use Rattle.clr_check.specs.Standing.{claims_of};
 ghost use Rattle.clr_report.specs.CheckText.{check_text};
 ghost use Rattle.clr_report.specs.declared.note.Cause.{Cause};
 ghost use Rattle.clr_report.specs.declared.note.Doc.{Doc};

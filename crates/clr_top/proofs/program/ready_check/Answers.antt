@@ -4,9 +4,9 @@ use Rattle.clr_words.specs.Asked.{ask_of}
 use Rattle.clr_words.specs.declared.asked.Job.TheVariants as j
 use Rattle.clr_report.specs.declared.note.Doc.TheVariants as d
 use Rattle.clr_top.specs.FileEnds.{EndsBy}
-use Rattle.clr_top.specs.Checking.{CheckReports, check_ends}
-use Rattle.clr_top.proofs.Ends.{same-error}
-use Rattle.clr_top.proofs.Further.{further-ends, further-passes, check-behind, check-gives}
+use Rattle.clr_top.specs.Checking.{check_ends}
+use Rattle.clr_top.proofs.Ends.{given-error, same-error}
+use Rattle.clr_top.proofs.Further.{further-ends, further-passes, check-behind, check-written}
 use Rattle.clr_top.proofs.program.ready_check.Goals as goal
 
 pub returns-in_err-text-clause-ends : goal.returns-in_err-text-clause-ends
@@ -16,16 +16,15 @@ returns-in_err-text-clause-ends g c = λ ending is.
     let files : g.H.Shelf.files c.asked_season.new.shelf ≡ g.H.Shelf.files c.args.shelf.now = c.in_ok-season.ensures.files in
     let ends : EndsBy (g.H.Shelf.files c.args.shelf.now) (check_ends c.in_ok-season.season (ask_of c.args.asked.now)) d.Certificate (g.H.Shelf.taken c.check_season.new.shelf) (g.H.Shelf.faults c.asked_season.new.shelf) (g.H.Shelf.faults c.check_season.new.shelf) c.in_err-text.field-0.0 =
     subst (λ told. EndsBy told (check_ends c.in_ok-season.season (ask_of c.args.asked.now)) d.Certificate (g.H.Shelf.taken c.check_season.new.shelf) (g.H.Shelf.faults c.asked_season.new.shelf) (g.H.Shelf.faults c.check_season.new.shelf) c.in_err-text.field-0.0)
-    files (c.in_err-text.ensures.ends c.in_err-text.field-0.0 refl) in
+    files (c.in_err-text.ensures.ends c.in_err-text.field-0.0 (given-error c.in_err-text.field-0.0)) in
     rw (← same)
     (further-ends j.Check check_ends check-behind (g.H.Shelf.files c.args.shelf.now) (ask_of c.args.asked.now) c.in_ok-season.season c.requires.job c.in_ok-season.ensures.season c.in_ok-season.ensures.facts d.Certificate (g.H.Shelf.taken c.check_season.new.shelf)
     (g.H.Shelf.faults c.args.shelf.now) (g.H.Shelf.faults c.asked_season.new.shelf) (g.H.Shelf.faults c.check_season.new.shelf) c.in_err-text.field-0.0 (λ other. cc) refl c.in_ok-season.ensures.later ends)
 
 pub returns-clause-gives : goal.returns-clause-gives
 returns-clause-gives g c =
-    let reports : CheckReports (g.H.Shelf.files c.args.shelf.now) c.in_ok-season.season (ask_of c.args.asked.now) c.in_ok-text.text.items =
-    subst (λ told. CheckReports told c.in_ok-season.season (ask_of c.args.asked.now) c.in_ok-text.text.items) c.in_ok-season.ensures.files c.in_ok-text.ensures.reports in
-    check-gives (g.H.Shelf.files c.args.shelf.now) (ask_of c.args.asked.now) _ c.requires.job (c.in_ok-season.season, c.in_ok-season.ensures.season, c.in_ok-season.ensures.facts, (refl, reports))
+    check-written (g.H.Shelf.files c.args.shelf.now) (g.H.Shelf.files c.asked_season.new.shelf) (ask_of c.args.asked.now) c.in_ok-season.season c.in_ok-text.text.items c.in_ok-season.ensures.files c.requires.job c.in_ok-season.ensures.season
+    c.in_ok-season.ensures.facts c.in_ok-text.ensures.reports
 
 pub returns-clause-passes : goal.returns-clause-passes
 returns-clause-passes g c =

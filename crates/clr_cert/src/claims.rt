@@ -1,4 +1,4 @@
-// What a certificate claims, and what stands at its end.
+// What a certificate claims.
 use clr_model::Path;
 
 /// What an accepted certificate claims. Its numbers are in units, of which a cent has 10^6.
@@ -15,15 +15,4 @@ pub struct Claims {
     /// Where the season fits: what the policy of the certificate's own rungs earns at least, and what no policy that abides
     /// passes.
     pub exact: Option<(i128, i128)>,
-}
-
-/// What stands after the last line feed.
-#[derive(Clone, Copy)]
-pub(crate) enum Rest {
-    /// No byte.
-    Nothing,
-    /// Bytes, and no more than a line may have.
-    Few,
-    /// More bytes than a line may have.
-    Many,
 }
