@@ -1,5 +1,5 @@
 -- A walk that meets more prefixes.
-use Rattle.std.proofs.Common.{◌≡◌, ℕ, ◌+◌, ◌-◌, ◌<◌, ◌≤◌, nat_lt, ℤ, Bool, true, false, not, IsTrue, ◌↔◌, if◌then◌else◌, refl, sym, ap, ap₂, ◌∙◌, subst, arith, suc, zero, List, [], ◌∷◌, ◌++◌, length, take, append_assoc, append-nil, length-append, eq-eqb, add-one}
+use Rattle.std.proofs.Common.{◌≡◌, ℕ, ◌+◌, ◌-◌, ◌<◌, ◌≤◌, nat_lt, ℤ, Bool, true, false, not, IsTrue, ◌↔◌, if◌then◌else◌, refl, sym, ap, ap₂, ◌∙◌, subst, arith, suc, zero, List, [], ◌∷◌, ◌++◌, length, take, append_assoc, append-nil, length-append, eqb, eq-eqb, add-one}
 use Rattle.std.specs.List.{filter, flat_map}
 use Rattle.std.proofs.lemmas.List.{take-append-le}
 use Rattle.std.proofs.lemmas.List.Elements.{filter-append}
@@ -8,7 +8,7 @@ use Rattle.std.proofs.lemmas.Bool.Decides.{nat_tests}
 use Rattle.clr_num.specs.Lists.{numbers}
 use Rattle.clr_walk.specs.Prefixes.{Terms, IsChosen}
 use Rattle.clr_walk.specs.Tight.{is_whole, reaches, tight, IsSearched}
-use Rattle.clr_walk.specs.Walks.{IsWalked, Takes, entered, under}
+use Rattle.clr_walk.specs.Walks.{IsWalked, Leaves, Takes, entered, under}
 use Rattle.clr_walk.specs.declared.walk.Walk.{Walk}
 use Rattle.clr_walk.proofs.Choosing.{IsKept}
 
@@ -56,6 +56,59 @@ met_path terms seeds seen nodes path best best_after left left_after more low lo
     still : length seen < nodes → length (seen ++ path ∷ []) ≡ length seen + 1 → nat_lt nodes (length seen) ≡ nat_lt nodes (length (seen ++ path ∷ []))
     still p f = grind (arith, nat_tests)
 
+-- the walk takes a path that is not whole
+pub met_part : (terms : Terms) (seeds seen : List (List ℕ)) (nodes : ℕ) (path best : List ℕ) (left left_after : ℕ) (more : Bool) (low : ℤ) → IsWalked terms seeds nodes seen left more best low → 1 ≤ left → left_after ≡ left - 1 → length path < terms.weeks → IsWalked terms seeds nodes (seen ++ path ∷ []) left_after more best low
+met_part terms seeds seen nodes path best left left_after more low walked some left_is part =
+    let room : length seen < nodes = roomy walked.left_is in
+    record {
+      left_is = count walked.left_is (length-append seen (path ∷ []));
+      more_is = walked.more_is ∙ still room (length-append seen (path ∷ []));
+      chosen = subst (λ xs. IsChosen terms (seeds ++ xs) best) (sym (same room (longer room (length-append seen (path ∷ []))))) walked.chosen;
+      low_is = walked.low_is;
+    }
+  where
+    roomy : left ≡ nodes - length seen → length seen < nodes
+    roomy e = omega arith
+
+    count : left ≡ nodes - length seen → length (seen ++ path ∷ []) ≡ length seen + 1 → left_after ≡ nodes - length (seen ++ path ∷ [])
+    count e f = omega arith
+
+    still : length seen < nodes → length (seen ++ path ∷ []) ≡ length seen + 1 → nat_lt nodes (length seen) ≡ nat_lt nodes (length (seen ++ path ∷ []))
+    still p f = grind (arith, nat_tests)
+
+    longer : length seen < nodes → length (seen ++ path ∷ []) ≡ length seen + 1 → length (seen ++ path ∷ []) ≤ nodes
+    longer p f = omega arith
+
+    shorter : (a b : ℕ) → a < b → eqb a b ≡ false
+    shorter a b p = grind (arith, nat_tests)
+
+    same : length seen < nodes → length (seen ++ path ∷ []) ≤ nodes → filter (is_whole terms) (take nodes (seen ++ path ∷ [])) ≡ filter (is_whole terms) (take nodes seen)
+    same room fits =
+        ap (filter (is_whole terms)) (take_all nodes (seen ++ path ∷ []) fits)
+        ∙ (filter-append (is_whole terms) seen (path ∷ [])
+        ∙ (ap (λ b. filter (is_whole terms) seen ++ (if b then path ∷ [] else [])) (shorter (length path) terms.weeks part)
+        ∙ (append-nil (filter (is_whole terms) seen) ∙ ap (filter (is_whole terms)) (sym (take_all nodes seen (omega arith))))))
+
+-- where nothing is left to take, there are more
+pub met_more : (terms : Terms) (seeds seen : List (List ℕ)) (nodes : ℕ) (path best : List ℕ) (left : ℕ) (more : Bool) (low : ℤ) → IsWalked terms seeds nodes seen left more best low → left ≡ 0 → IsWalked terms seeds nodes (seen ++ path ∷ []) left true best low
+met_more terms seeds seen nodes path best left more low walked none =
+    let over : nodes ≤ length seen = filled walked.left_is in
+    record {
+      left_is = count walked.left_is (length-append seen (path ∷ []));
+      more_is = past over (length-append seen (path ∷ []));
+      chosen = subst (λ t. IsChosen terms (seeds ++ filter (is_whole terms) t) best) (sym (take-append-le nodes seen (path ∷ []) over)) walked.chosen;
+      low_is = walked.low_is;
+    }
+  where
+    filled : left ≡ nodes - length seen → nodes ≤ length seen
+    filled e = omega arith
+
+    count : left ≡ nodes - length seen → length (seen ++ path ∷ []) ≡ length seen + 1 → left ≡ nodes - length (seen ++ path ∷ [])
+    count e f = omega arith
+
+    past : nodes ≤ length seen → length (seen ++ path ∷ []) ≡ length seen + 1 → true ≡ nat_lt nodes (length (seen ++ path ∷ []))
+    past p f = grind (arith, nat_tests)
+
 -- a walk that has met its fill stays as it is
 pub full : (terms : Terms) (seeds seen added : List (List ℕ)) (nodes left : ℕ) (more : Bool) (best : List ℕ) (low : ℤ) → IsWalked terms seeds nodes seen left more best low → more ≡ true → IsWalked terms seeds nodes (seen ++ added) left more best low
 full terms seeds seen added nodes left more best low walked is =
@@ -80,6 +133,11 @@ full terms seeds seen added nodes left more best low walked is =
 
 pub takes_none : (terms : Terms) (walk : Walk) → Takes terms [] walk walk
 takes_none terms walk seeds seen nodes walked = subst (λ xs. IsWalked terms seeds nodes xs walk.left walk.more walk.best.items walk.low) (sym (append-nil seen)) walked
+
+-- nothing is taken at a prefix that is not live
+pub leaves_dead : (terms : Terms) (seed : ℤ) (prefix : List ℕ) (to_go : ℕ) (walk : Walk) → terms.live prefix ≡ false → Leaves terms seed prefix to_go walk walk
+leaves_dead terms seed prefix to_go walk dead behind none =
+    subst (λ xs. Takes terms xs walk walk) (sym (ap (λ b. if b then prefix ∷ (if reaches terms seed prefix then behind else []) else []) dead)) (takes_none terms walk)
 
 pub takes_both : (terms : Terms) (xs ys : List (List ℕ)) (a b c : Walk) → Takes terms xs a b → Takes terms ys b c → Takes terms (xs ++ ys) a c
 takes_both terms xs ys a b c p q seeds seen nodes walked = subst (λ zs. IsWalked terms seeds nodes zs c.left c.more c.best.items c.low) (append_assoc seen xs ys) (q seeds (seen ++ xs) nodes (p seeds seen nodes walked))

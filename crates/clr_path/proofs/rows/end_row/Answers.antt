@@ -1,4 +1,4 @@
-use Rattle.std.proofs.Common.{◌≡◌, ℕ, ◌<◌, ◌≤◌, ◌+◌, ◌*◌, ◌^◌, ℤ, pos, ◌*ℤ◌, [], ◌∷◌, ◌++◌, map, ap, ap₂, sym, ◌∙◌, arith, add-one, mul_assoc, mul-le-mul, to_z}
+use Rattle.std.proofs.Common.{◌≡◌, ℕ, ◌<◌, ◌≤◌, ◌+◌, ◌*◌, ◌^◌, ℤ, pos, ◌*ℤ◌, [], ◌∷◌, ◌++◌, map, ap, ap₂, sym, ◌∙◌, arith, add-one, mul_assoc, mul-le-mul, to_z, Fits, SFits}
 use Rattle.std.proofs.lemmas.Int.{ints}
 use mir.Syntax.{w64}
 use Rattle.clr_num.specs.Lists.{numbers}
@@ -18,6 +18,25 @@ read paid stock width most lt size =
   where
     whole : (n : ℕ) → n < 2 ^ 63 → to_z w64 n ≡ pos n
     whole n lt = omega (arith, ints)
+
+fits : (paid stock width : ℕ) → paid ≤ 10000000 → stock < width → width ≤ 2001 → 1000000 * paid * stock < 2 ^ 63
+fits paid stock width most lt size =
+    let unit : 1000000 * paid ≤ 10000000000000 = omega arith in
+    let held : stock ≤ 2001 = omega arith in
+    let small : 1000000 * paid * stock ≤ 10000000000000 * 2001 = mul-le-mul unit held in
+    omega (arith, small)
+
+fits_64 : (n : ℕ) → n < 2 ^ 63 → Fits w64 n
+fits_64 n lt = record { fits = omega (arith, lt) }
+
+fits_signed : (n : ℕ) → n < 2 ^ 63 → SFits w64 (pos n)
+fits_signed n lt = record { sfits = omega (arith, ints, lt) }
+
+pub overflow_mul-unit-in-loop-stock : goal.overflow_mul-unit-in-loop-stock
+overflow_mul-unit-in-loop-stock c = fits_64 (1000000 * c.salvage-unit.result * c.loop-stock.stock) (fits c.salvage-unit.result c.loop-stock.stock c.args.width c.salvage-unit.ensures.range c.loop-stock-test.true c.requires.size)
+
+pub overflow_cast-unit : goal.overflow_cast-unit
+overflow_cast-unit c = fits_signed (1000000 * c.salvage-unit.result * c.loop-stock.stock) (fits c.salvage-unit.result c.loop-stock.stock c.args.width c.salvage-unit.ensures.range c.loop-stock-test.true c.requires.size)
 
 worth : (season : Season) (store paid stock : ℕ) → paid ≡ (store_at season store).salvage → pos (1000000 * paid * stock) ≡ pos cent *ℤ salvage_cents season store stock
 unfolding cent
