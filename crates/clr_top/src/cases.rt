@@ -1,87 +1,201 @@
-// What the worked cases share: the files of a season, and what a run answers to them.
+// What the worked cases share: seasons and cases as texts, and what a run answers to them.
+//
+// A season is a text with a file a line: its name, a space, and its bytes, in which `|` stands for a line feed, `^` for a carriage
+// return, `~` for a tab, `@` for a byte order mark, and `%` for a byte 0xFF.
+//
+// A case is a text of such lines, whose files stand in the place of the season's. A line `- NAME` takes a file away, a line `> WORDS`
+// tells the words of the command, which are `plan f` where there is none, and a line `# ..` is a remark. The last line `= NUMBER ..`
+// tells the exit status, and behind it the report in the signs above, or for a status other than 0 the note. Of a report that
+// begins with `..` the front is left out. In a table the cases are parted by empty lines.
 use crate::ending::Status;
 use crate::program::run;
-use clr_io::{Desk, FileShelf, MemoryDesk, MemoryShelf, MemorySink, Shelf};
+use clr_io::{Desk, FileDesk, FileShelf, MemoryDesk, MemoryShelf, MemorySink, Shelf};
 use std::alloc::{AllocError, Global};
 use std::fs;
 use std::rt::Files as RealFiles;
 use std::test::Fail;
 
-// The files of a season.
-#[derive(Clone, Copy)]
-pub(crate) struct Files<'a> {
-    pub rules: &'a [u8],
-    pub calendar: &'a [u8],
-    pub ladder: &'a [u8],
-    pub stock: &'a [u8],
-    pub demand: &'a [u8],
-}
+pub(crate) const SMALLEST: &str = r#"rules.json {"weeks":1,"base":4}
+calendar.csv
+ladder.csv rung,price|1,10.00|
+stock.csv store,units,salvage|a,1,2.00|
+demand.csv store,week,rung,units,weight|a,1,1,0,1|a,1,1,1,3|"#;
 
-pub(crate) const SMALLEST: Files<'static> = Files {
-    rules: b"{\"weeks\":1,\"base\":4}",
-    calendar: b"",
-    ladder: b"rung,price\n1,10.00\n",
-    stock: b"store,units,salvage\na,1,2.00\n",
-    demand: b"store,week,rung,units,weight\na,1,1,0,1\na,1,1,1,3\n",
-};
-
-pub(crate) const SMALLEST_REPORT: &[u8] =
-    b"season 1 stores 1 weeks 1 rungs base 4\npath 1\nprices 10.00\nrevenue 8.00000000 8.00000000\nbest yes\nbound 8.00000000 step 0\ngap 0.00000000\nexact 8.00000000 8.00000000 first 1\n";
+pub(crate) const SMALLEST_REPORT: &str =
+    "season 1 stores 1 weeks 1 rungs base 4|path 1|prices 10.00|revenue 8.00000000 8.00000000|best yes|bound 8.00000000 step 0|gap 0.00000000|exact 8.00000000 8.00000000 first 1|";
 
 // One store, two weeks, two rungs: on the first rung nothing or one unit is asked for in each week.
-pub(crate) const TWO_WEEKS: Files<'static> = Files {
-    rules: b"{\"weeks\":2,\"base\":2}",
-    calendar: b"",
-    ladder: b"rung,price\n1,10.00\n2,4.00\n",
-    stock: b"store,units,salvage\na,2,0\n",
-    demand: b"store,week,rung,units,weight\na,1,1,0,1\na,1,1,1,1\na,2,1,0,1\na,2,1,1,1\na,1,2,0,2\na,2,2,2,2\n",
-};
+pub(crate) const TWO_WEEKS: &str = r#"rules.json {"weeks":2,"base":2}
+calendar.csv
+ladder.csv rung,price|1,10.00|2,4.00|
+stock.csv store,units,salvage|a,2,0|
+demand.csv store,week,rung,units,weight|a,1,1,0,1|a,1,1,1,1|a,2,1,0,1|a,2,1,1,1|a,1,2,0,2|a,2,2,2,2|"#;
 
-// A list of numbers.
-pub(crate) fn list_of(alloc: Global, numbers: &[u64]) -> Result<Vec<u64>, AllocError> {
-    let mut list = Vec::new(alloc);
-    for number in numbers {
-        list.push(*number)?;
+// ---- texts
+
+// What a sign stands for; nothing where it stands for itself.
+fn bytes_behind(sign: u8) -> &'static [u8] {
+    match sign {
+        b'|' => b"\n",
+        b'^' => b"\r",
+        b'~' => b"\t",
+        b'@' => b"\xEF\xBB\xBF",
+        b'%' => b"\xFF",
+        _ => b"",
     }
-    Ok(list)
 }
 
-pub(crate) fn words_of(alloc: Global, words: &[&str]) -> Result<Vec<String>, AllocError> {
-    let mut all = Vec::new(alloc);
-    for word in words {
-        all.push(String::from_str(alloc, *word)?)?;
-    }
-    Ok(all)
-}
-
-// The files that are held: each but the one that is left out, by its number from 1.
-pub(crate) fn held(
-    alloc: Global,
-    files: Files<'_>,
-    left_out: usize,
-) -> Result<Vec<(String, Vec<u8>)>, AllocError> {
-    let mut held = Vec::new(alloc);
-    let all: [(&str, &[u8]); 5] = [
-        ("f/rules.json", files.rules),
-        ("f/calendar.csv", files.calendar),
-        ("f/ladder.csv", files.ladder),
-        ("f/stock.csv", files.stock),
-        ("f/demand.csv", files.demand),
-    ];
-    for (index, (name, bytes)) in all.iter().enumerate() {
-        if index + 1 != left_out {
-            held.push((String::from_str(alloc, *name)?, bytes.to_vec(alloc)?))?;
+// The bytes that a text stands for.
+pub(crate) fn bytes_of(alloc: Global, text: &str) -> Result<Vec<u8>, AllocError> {
+    let mut bytes = Vec::new(alloc);
+    for sign in text.as_bytes() {
+        let behind = bytes_behind(*sign);
+        if behind.is_empty() {
+            bytes.push(*sign)?;
+        } else {
+            bytes.extend_from_slice(behind)?;
         }
     }
-    Ok(held)
+    Ok(bytes)
 }
 
-// What is said: a whole report, or the note of a status.
-#[derive(Clone, Copy)]
-pub(crate) enum Said {
-    Report(&'static [u8]),
-    Note(Status, &'static str),
+// Three texts, one behind the other.
+pub(crate) fn joined(
+    alloc: Global,
+    front: &str,
+    between: &str,
+    back: &str,
+) -> Result<String, AllocError> {
+    let mut text = String::from_str(alloc, front)?;
+    text.push_str(between)?;
+    text.push_str(back)?;
+    Ok(text)
 }
+
+// Puts the bytes behind a text, with a number in the place of a sign.
+fn put_numbered(
+    text: &mut Vec<u8>,
+    bytes: &[u8],
+    sign: u8,
+    number: &[u8],
+) -> Result<(), AllocError> {
+    for byte in bytes {
+        if *byte == sign {
+            text.extend_from_slice(number)?;
+        } else {
+            text.push(*byte)?;
+        }
+    }
+    Ok(())
+}
+
+// The bytes once for each number from `first` to `last`, with the number in the place of a sign.
+pub(crate) fn numbered(
+    alloc: Global,
+    bytes: &[u8],
+    sign: u8,
+    first: u32,
+    last: u32,
+) -> Result<Vec<u8>, AllocError> {
+    let mut text = Vec::new(alloc);
+    for number in first..=last {
+        let number = format!(in alloc; "{number}")?;
+        put_numbered(&mut text, bytes, sign, number.as_bytes())?;
+    }
+    Ok(text)
+}
+
+// The text of demand.csv with these rows for each store from `first` to `last`, each week and each rung: `#` stands for the store's
+// number, `$` for the week's and `&` for the rung's.
+pub(crate) fn demand_of(
+    alloc: Global,
+    rows: &[u8],
+    first: u32,
+    last: u32,
+    weeks: u32,
+    rungs: u32,
+) -> Result<Vec<u8>, AllocError> {
+    let of_rungs = numbered(alloc, rows, b'&', 1, rungs)?;
+    let of_weeks = numbered(alloc, &of_rungs, b'$', 1, weeks)?;
+    let of_stores = numbered(alloc, &of_weeks, b'#', first, last)?;
+    let mut text = b"store,week,rung,units,weight\n".to_vec(alloc)?;
+    text.extend_from_slice(&of_stores)?;
+    Ok(text)
+}
+
+// ---- files
+
+// Files by their paths.
+pub(crate) type Held = Vec<(String, Vec<u8>)>;
+
+// Puts a file into a folder.
+pub(crate) fn put_file(
+    alloc: Global,
+    files: &mut Held,
+    folder: &str,
+    name: &str,
+    bytes: Vec<u8>,
+) -> Result<(), AllocError> {
+    let path = joined(alloc, folder, "/", name)?;
+    files.push((path, bytes))?;
+    Ok(())
+}
+
+// The name of a line's file and the text of its bytes.
+fn file_of(line: &str) -> (&str, &str) {
+    line.split_once(' ').unwrap_or((line, ""))
+}
+
+// A line is a file, and none of the other lines of a case.
+fn is_file(line: &str) -> bool {
+    !matches!(
+        line.as_bytes().first(),
+        None | Some(b'-' | b'>' | b'=' | b'#')
+    )
+}
+
+// A case replaces the file of this name, or takes it away.
+fn is_replaced(case: &str, name: &str) -> bool {
+    for line in case.lines() {
+        let line = line.strip_prefix("- ").unwrap_or(line);
+        if file_of(line).0 == name {
+            return true;
+        }
+    }
+    false
+}
+
+// Puts the files of the lines into a folder, but for those that a case replaces.
+fn put_files(
+    alloc: Global,
+    files: &mut Held,
+    folder: &str,
+    lines: &str,
+    case: &str,
+) -> Result<(), AllocError> {
+    for line in lines.lines() {
+        let (name, text) = file_of(line);
+        if is_file(line) && !is_replaced(case, name) {
+            put_file(alloc, files, folder, name, bytes_of(alloc, text)?)?;
+        }
+    }
+    Ok(())
+}
+
+// The files of a case over a season, in a folder.
+pub(crate) fn held(
+    alloc: Global,
+    folder: &str,
+    season: &str,
+    case: &str,
+) -> Result<Held, AllocError> {
+    let mut files = Vec::new(alloc);
+    put_files(alloc, &mut files, folder, case, "")?;
+    put_files(alloc, &mut files, folder, season, case)?;
+    Ok(files)
+}
+
+// ---- answers
 
 // What a run answered, and what stands on its sinks.
 #[derive(Drop)]
@@ -98,9 +212,9 @@ impl Answer {
     }
 
     // The report ends with these lines, and no note stands.
-    pub(crate) fn ends_with(&self, lines: &str) -> bool {
+    fn ends_with(&self, lines: &[u8]) -> bool {
         self.status == Status::Ok
-            && self.out.bytes().ends_with(lines.as_bytes())
+            && self.out.bytes().ends_with(lines)
             && self.note.bytes().is_empty()
     }
 
@@ -112,48 +226,72 @@ impl Answer {
             && self.note.bytes() == b"write fault: report\n".as_slice()
     }
 
-    // The report stands whole, or the note, and nothing else.
-    pub(crate) fn says(&self, said: &Said) -> bool {
-        match said {
-            Said::Report(report) => self.reports(report),
-            Said::Note(status, note) => self.notes(*status, note),
-        }
-    }
-
     // The note stands, and nothing else.
-    pub(crate) fn notes(&self, status: Status, note: &str) -> bool {
+    fn notes(&self, note: &str) -> bool {
         let line = self.note.bytes();
-        self.status == status
-            && self.out.bytes().is_empty()
+        self.out.bytes().is_empty()
             && line.ends_with(b"\n")
             && line.starts_with(note.as_bytes())
             && line.len() == note.len().saturating_add(1)
     }
+
+    // The status has this number.
+    fn has_number(&self, number: &str) -> bool {
+        match number.parse::<u8>() {
+            Ok(number) => self.status.number() == number,
+            Err(_) => false,
+        }
+    }
+
+    // The run answered with this number and this report or note, and nothing else.
+    pub(crate) fn says(&self, alloc: Global, told: &str) -> Result<bool, AllocError> {
+        let (number, text) = file_of(told);
+        if number != "0" {
+            return Ok(self.has_number(number) && self.notes(text));
+        }
+        match text.strip_prefix("..") {
+            Some(lines) => Ok(self.ends_with(&bytes_of(alloc, lines)?)),
+            None => Ok(self.reports(&bytes_of(alloc, text)?)),
+        }
+    }
 }
 
-// The calls that fail on the sinks, counted from 1.
+// ---- runs
+
+// The calls that fail on the sinks, counted from 1; none for 0.
 #[derive(Clone, Copy)]
-pub(crate) struct Failing<'a> {
-    pub report: &'a [u64],
-    pub note: &'a [u64],
+pub(crate) struct Failing {
+    pub report: u64,
+    pub note: u64,
 }
 
-pub(crate) const NONE_FAILS: Failing<'static> = Failing {
-    report: &[],
-    note: &[],
-};
+pub(crate) const NONE_FAILS: Failing = Failing { report: 0, note: 0 };
+
+// A list of numbers.
+pub(crate) fn list_of(alloc: Global, numbers: &[u64]) -> Result<Vec<u64>, AllocError> {
+    numbers.to_vec(alloc)
+}
+
+// The words of a text.
+fn words_of(alloc: Global, text: &str) -> Result<Vec<String>, AllocError> {
+    let mut words = Vec::new(alloc);
+    for word in text.split_whitespace() {
+        words.push(String::from_str(alloc, word)?)?;
+    }
+    Ok(words)
+}
 
 // What the words ask of a shelf and a desk. The contract of `run` is long, so the tests call it here alone.
 pub(crate) fn run_over<H: Shelf, D: Desk>(
     alloc: Global,
-    words: &[&str],
+    words: &str,
     shelf: &mut H,
     desk: &mut D,
-    failing: Failing<'_>,
+    failing: Failing,
 ) -> Result<Answer, AllocError> {
     let words = words_of(alloc, words)?;
-    let mut out = MemorySink::new(alloc, 4096, 16, list_of(alloc, failing.report)?)?;
-    let mut note = MemorySink::new(alloc, 256, 7, list_of(alloc, failing.note)?)?;
+    let mut out = MemorySink::new(alloc, 4096, 16, list_of(alloc, &[failing.report])?)?;
+    let mut note = MemorySink::new(alloc, 256, 7, list_of(alloc, &[failing.note])?)?;
     let status = run(alloc, &words, shelf, desk, &mut out, &mut note);
     Ok(Answer { status, out, note })
 }
@@ -161,59 +299,118 @@ pub(crate) fn run_over<H: Shelf, D: Desk>(
 // What the words ask of a shelf, over a desk that takes no file.
 pub(crate) fn run_on<H: Shelf>(
     alloc: Global,
-    words: &[&str],
+    words: &str,
     shelf: &mut H,
-    failing: Failing<'_>,
+    failing: Failing,
 ) -> Result<Answer, AllocError> {
     let mut desk = MemoryDesk::new(alloc, 0, 0, 1, Vec::new(alloc))?;
     run_over(alloc, words, shelf, &mut desk, failing)
 }
 
-// What the words ask of files in memory.
+// What the words ask of files in memory, which are read in pieces of so many bytes, and where the call of a number fails.
 pub(crate) fn asked_of(
     alloc: Global,
-    words: &[&str],
-    files: Files<'_>,
+    words: &str,
+    files: Held,
+    piece: usize,
+    fail: u64,
 ) -> Result<Answer, AllocError> {
-    let mut shelf = MemoryShelf::new(held(alloc, files, 0)?, 16, Vec::new(alloc));
+    let mut shelf = MemoryShelf::new(files, piece.max(1), list_of(alloc, &[fail])?);
     run_on(alloc, words, &mut shelf, NONE_FAILS)
 }
 
-// The plan of files in memory.
-pub(crate) fn planned(alloc: Global, files: Files<'_>) -> Result<Answer, AllocError> {
-    asked_of(alloc, &["plan", "f"], files)
+// The last line of a text that begins with this sign, without it.
+pub(crate) fn line_of<'a>(text: &'a str, sign: &str) -> Option<&'a str> {
+    let mut last = None;
+    for line in text.lines() {
+        if let Some(rest) = line.strip_prefix(sign) {
+            last = Some(rest);
+        }
+    }
+    last
 }
 
-// Puts the files into a real folder, which is there.
-pub(crate) fn write_files(
+// What a case tells of its run.
+fn told_of(case: &str) -> &str {
+    line_of(case, "= ").unwrap_or("")
+}
+
+// The words of a case are answered over the files in memory as it tells.
+pub(crate) fn is_answered_among(
+    alloc: Global,
+    files: Held,
+    case: &str,
+) -> Result<bool, AllocError> {
+    let words = line_of(case, ">").unwrap_or("plan f");
+    let answer = asked_of(alloc, words, files, 16, 0)?;
+    answer.says(alloc, told_of(case))
+}
+
+// The case over a season in memory is answered as it tells.
+pub(crate) fn is_answered(alloc: Global, season: &str, case: &str) -> Result<bool, AllocError> {
+    let files = held(alloc, "f", season, case)?;
+    is_answered_among(alloc, files, case)
+}
+
+// What the words ask of real folders.
+pub(crate) fn asked_on_disk(
     rt: &impl RealFiles,
     alloc: Global,
-    folder: &str,
-    files: Files<'_>,
-) -> Result<(), Fail> {
-    let all: [(&str, &[u8]); 5] = [
-        ("rules.json", files.rules),
-        ("calendar.csv", files.calendar),
-        ("ladder.csv", files.ladder),
-        ("stock.csv", files.stock),
-        ("demand.csv", files.demand),
-    ];
-    for (name, bytes) in all {
-        let path = format!(in alloc; "{folder}/{name}")?;
-        fs::write(rt, path.as_str(), bytes)?;
+    words: &str,
+) -> Result<Answer, AllocError> {
+    let mut shelf = FileShelf::new(rt);
+    let mut desk = FileDesk::new(rt);
+    run_over(alloc, words, &mut shelf, &mut desk, NONE_FAILS)
+}
+
+// Writes the files into a real folder, which is there.
+pub(crate) fn write_files(rt: &impl RealFiles, files: &[(String, Vec<u8>)]) -> Result<(), Fail> {
+    for (path, bytes) in files {
+        fs::write(rt, path.as_str(), bytes.as_slice())?;
     }
     Ok(())
 }
 
-// The plan of the same files in a real folder, which is there.
-pub(crate) fn planned_on_disk(
+// The plan of a real folder.
+fn planned_on_disk(rt: &impl RealFiles, alloc: Global, folder: &str) -> Result<Answer, AllocError> {
+    let words = joined(alloc, "plan", " ", folder)?;
+    let mut shelf = FileShelf::new(rt);
+    run_on(alloc, words.as_str(), &mut shelf, NONE_FAILS)
+}
+
+// The plan of a real folder is answered as it is told.
+pub(crate) fn is_told_on_disk(
     rt: &impl RealFiles,
     alloc: Global,
     folder: &str,
-    files: Files<'_>,
-) -> Result<Answer, Fail> {
-    write_files(rt, alloc, folder, files)?;
-    let mut shelf = FileShelf::new(rt);
-    let answer = run_on(alloc, &["plan", folder], &mut shelf, NONE_FAILS)?;
-    Ok(answer)
+    told: &str,
+) -> Result<bool, AllocError> {
+    let answer = planned_on_disk(rt, alloc, folder)?;
+    answer.says(alloc, told)
+}
+
+// The plan of the case's files in a real folder, which is there, is answered as the case tells.
+pub(crate) fn is_answered_on_disk(
+    rt: &impl RealFiles,
+    alloc: Global,
+    folder: &str,
+    season: &str,
+    case: &str,
+) -> Result<bool, Fail> {
+    write_files(rt, &held(alloc, folder, season, case)?)?;
+    let is_told = is_told_on_disk(rt, alloc, folder, told_of(case))?;
+    Ok(is_told)
+}
+
+// The case is answered as it tells over the memory and over a real folder, which is there.
+pub(crate) fn is_answered_twice(
+    rt: &impl RealFiles,
+    alloc: Global,
+    folder: &str,
+    season: &str,
+    case: &str,
+) -> Result<bool, Fail> {
+    let in_memory = is_answered(alloc, season, case)?;
+    let on_disk = is_answered_on_disk(rt, alloc, folder, season, case)?;
+    Ok(in_memory && on_disk)
 }
