@@ -1,0 +1,281 @@
+// Cases of the forms of fields, of names and of whole files.
+use crate::tables::{file_of, number, refusal, sides};
+use clr_text::{FileError, Names, Table, cut, is_name, read_money, read_u64, rows};
+use std::alloc::{AllocError, Global};
+use std::test::Fail;
+
+// Fields, and what is left of them.
+const CUT: &str = "=>
+a=>a
+ a b~=>a b
+~ ~=>
+~a,b =>a,b
+|a^=>|a^
+\u{a0}a=>\u{a0}a";
+
+fn is_cut(alloc: Global, case: &str) -> Result<bool, AllocError> {
+    let (field, left) = sides(case);
+    let field = file_of(alloc, field, "")?;
+    let left = file_of(alloc, left, "")?;
+    Ok(cut(&field) == left.as_slice())
+}
+
+#[test]
+fn fields_are_cut(rt: HostRuntime) -> Result<(), Fail> {
+    for case in CUT.lines() {
+        assert!(rt; is_cut(rt.alloc(), case)?, "{case}");
+    }
+    Ok(())
+}
+
+// Fields, and the whole numbers that they read to.
+const WHOLE: &str = "0=>Some(0)
+7=>Some(7)
+00=>Some(0)
+007=>Some(7)
+ ~12~ =>Some(12)
+0000000000000000000000000000000000000042=>Some(42)
+1111111111111111111111111111111111111111=>None
+9223372036854775807=>Some(9223372036854775807)
+9223372036854775808=>None
+18446744073709551617=>None
+=>None
+ =>None
++1=>None
+-1=>None
+1 2=>None
+1.0=>None
+0x1=>None
+1_000=>None
+\u{661}=>None";
+
+// Fields, and the cents that they read to as money.
+const MONEY: &str = "0=>Some(0)
+5=>Some(500)
+5.0=>Some(500)
+5.07=>Some(507)
+5.7=>Some(570)
+ 5.07~=>Some(507)
+00000001.5=>Some(150)
+12345678=>Some(1234567800)
+99999999.99=>Some(9999999999)
+10.005=>None
+.5=>None
+5.=>None
+.=>None
+123456789=>None
+000000001=>None
+5.0.7=>None
+5 .0=>None
+5,07=>None
+5.-1=>None
++5=>None
+-5.00=>None
+=>None";
+
+fn is_read(alloc: Global, case: &str, money: bool) -> Result<bool, AllocError> {
+    let (field, want) = sides(case);
+    let field = file_of(alloc, field, "")?;
+    let found = if money {
+        read_money(&field)
+    } else {
+        read_u64(&field)
+    };
+    Ok(number(alloc, found)?.as_str() == want)
+}
+
+#[test]
+fn whole_numbers(rt: HostRuntime) -> Result<(), Fail> {
+    for case in WHOLE.lines() {
+        assert!(rt; is_read(rt.alloc(), case, false)?, "{case}");
+    }
+    Ok(())
+}
+
+#[test]
+fn money(rt: HostRuntime) -> Result<(), Fail> {
+    for case in MONEY.lines() {
+        assert!(rt; is_read(rt.alloc(), case, true)?, "{case}");
+    }
+    Ok(())
+}
+
+// A file as a table of these columns.
+fn table_of(alloc: Global, file: &[u8], columns: &[&str]) -> Result<Table, FileError> {
+    if file.len() > 1000 {
+        return Err(FileError::Memory);
+    }
+    rows(alloc, file, columns)
+}
+
+// The fields of a table of two columns, each with a semicolon behind it, and each row with a slash.
+fn shown(alloc: Global, table: &Table) -> Result<Vec<u8>, AllocError> {
+    let mut text = Vec::new(alloc);
+    for row in 0..table.len() {
+        for column in 1..3 {
+            text.extend_from_slice(table.field(row + 1, column))?;
+            text.push(b';')?;
+        }
+        text.push(b'/')?;
+    }
+    Ok(text)
+}
+
+// Files, and what is shown of their tables with the columns a and b.
+const TABLES: &str = r#"a,b|1,2|=>1;2;/
+@a,b|1,2|=>1;2;/
+a,b^|1,2^|3,4^|=>1;2;/3;4;/
+a,b^1,2^=>1;2;/
+ a~,~b | 1 ,~2|=>1;2;/
+"a","b"|" 1 ","x,""y"""|=>1;x,"y";/
+|^|a,b||1,2|||3,4=>1;2;/3;4;/
+a,b|1,|,|=>1;;/;;/
+a,b|1,"2=>1;2;/
+a,b|1,"2|3,4|=>1;2|3,4|;/
+a,b=>
+a,b||=>"#;
+
+// Files that are refused, with the row, the column and why.
+const REFUSED: &str = "=>0 0 Header
+||=>0 0 Header
+@=>0 0 Header
+@@a,b|=>0 0 Header
+b,a|1,4|=>0 0 Header
+A,b|1,2|=>0 0 Header
+a|1,2,3|=>0 0 Header
+a,b,c|=>0 0 Header
+1,2|=>0 0 Header
+a,b|1|=>1 0 Fields
+a,b|1,2||1,2,3|1|=>2 0 Fields
+a,b|1,2| |=>2 0 Fields";
+
+fn is_tabled(alloc: Global, case: &str) -> Result<bool, AllocError> {
+    let (file, want) = sides(case);
+    let file = file_of(alloc, file, "")?;
+    let want = file_of(alloc, want, "")?;
+    match table_of(alloc, &file, &["a", "b"]) {
+        Ok(table) => Ok(shown(alloc, &table)?.as_slice() == want.as_slice()),
+        Err(error) => Ok(refusal(alloc, error)?.as_bytes() == want.as_slice()),
+    }
+}
+
+#[test]
+fn tables(rt: HostRuntime) -> Result<(), Fail> {
+    for case in TABLES.lines().chain(REFUSED.lines()) {
+        assert!(rt; is_tabled(rt.alloc(), case)?, "{case}");
+    }
+    Ok(())
+}
+
+// What stands in a column within its range.
+fn answer(alloc: Global, found: Result<u64, FileError>) -> Result<String, AllocError> {
+    match found {
+        Ok(found) => number(alloc, Some(found)),
+        Err(error) => refusal(alloc, error),
+    }
+}
+
+// A column, a range, and what the number and the money of that column are in it.
+const RANGES: [(u32, u64, u64, &str, &str); 7] = [
+    (1, 7, 7, "Some(7)", "1 1 Range"),
+    (1, 8, 700, "1 1 Range", "Some(700)"),
+    (1, 0, 6, "1 1 Range", "1 1 Range"),
+    (2, 150, 150, "1 2 Number", "Some(150)"),
+    (2, 0, 149, "1 2 Number", "1 2 Range"),
+    (2, 151, 999, "1 2 Number", "1 2 Range"),
+    (3, 0, 9, "1 3 Number", "1 3 Money"),
+];
+
+#[test]
+fn fields_in_their_range(rt: HostRuntime) -> Result<(), Fail> {
+    let alloc = rt.alloc();
+    let table = table_of(alloc, b"a,b,c\n7,1.50,x\n", &["a", "b", "c"])?;
+    assert_eq!(rt; table.len(), 1);
+    for (column, low, high, number, money) in RANGES {
+        let column = column.max(1);
+        let found = answer(alloc, table.number(1, column, low, high))?;
+        assert!(rt; found.as_str() == number, "{column}: {low}..{high}");
+        let found = answer(alloc, table.money(1, column, low, high))?;
+        assert!(rt; found.as_str() == money, "{column}: {low}..{high}");
+    }
+    Ok(())
+}
+
+// Files, their number of rows, and why a number other than 1 or 2 is refused.
+const COUNTS: &str = "a|=>0, 0 0 Count { found: 0 }
+a|1|=>1, taken
+a|1|2|=>2, taken
+a|1|2|3|=>3, 0 0 Count { found: 3 }";
+
+fn count_of(alloc: Global, table: Table) -> Result<String, AllocError> {
+    let rows = table.len();
+    let answer = match table.counted(2) {
+        Ok(_) => String::from_str(alloc, "taken")?,
+        Err(error) => refusal(alloc, error)?,
+    };
+    format!(in alloc; "{rows}, {answer}")
+}
+
+#[test]
+fn counts(rt: HostRuntime) -> Result<(), Fail> {
+    let alloc = rt.alloc();
+    for case in COUNTS.lines() {
+        let (file, want) = sides(case);
+        let table = table_of(alloc, &file_of(alloc, file, "")?, &["a"])?;
+        assert!(rt; count_of(alloc, table)?.as_str() == want, "{case}");
+    }
+    Ok(())
+}
+
+// Names, and whether a store may have them. The last two have 64 bytes and 65.
+const NAMES: &str = "a=>true
+=>false
+a b=>true
+a~b=>false
+a\u{1f}=>false
+\u{7f}=>true
+\u{e9}=>true
+0123456789abcdef0123456789abcdef0123456789abcdef0123456789abcdef=>true
+0123456789abcdef0123456789abcdef0123456789abcdef0123456789abcdefx=>false";
+
+fn is_judged(alloc: Global, case: &str) -> Result<bool, AllocError> {
+    let (name, want) = sides(case);
+    let name = file_of(alloc, name, "")?;
+    Ok(is_name(&name) == (want == "true"))
+}
+
+#[test]
+fn names_of_stores(rt: HostRuntime) -> Result<(), Fail> {
+    for case in NAMES.lines() {
+        assert!(rt; is_judged(rt.alloc(), case)?, "{case}");
+    }
+    assert!(rt; !is_name(b"a\xff") && !is_name(b"\xc3"));
+    Ok(())
+}
+
+// Names in their order, and the number of each that is new.
+const PUSHED: &str = "b=>Some(1)
+a=>Some(2)
+b=>None
+B=>Some(3)
+a=>None";
+
+#[test]
+fn names_in_order(rt: HostRuntime) -> Result<(), Fail> {
+    let alloc = rt.alloc();
+    let mut names = Names::new(alloc);
+    for case in PUSHED.lines() {
+        let (name, want) = sides(case);
+        assert!(rt; names.len() < 64);
+        let found = names.push(name.as_bytes())?.map(u64::from);
+        assert!(rt; number(alloc, found)?.as_str() == want, "{case}");
+    }
+    assert!(rt;
+        names.len() == 3
+            && names.get(2) == "a"
+            && names.find(b"B") == Some(3)
+            && names.find(b"c").is_none()
+            && names.find(b"\xff").is_none()
+    );
+    Ok(())
+}

@@ -1,0 +1,201 @@
+// Seasons over one ladder and without a calendar, with what their rules say counted by hand.
+use crate::tables::sides;
+use clr_rules::{Limits, Live, Rule, Rules, Summary, first_path, free_calendar};
+use std::alloc::{AllocError, Global};
+use std::test::Fail;
+
+const LADDER: [u64; 4] = [5_000, 4_500, 4_000, 3_500];
+
+// Four weeks in which a price may fall in any way.
+const FREE: Limits = Limits {
+    version: 1,
+    weeks: 4,
+    base: 1,
+    markdowns: 12,
+    spacing: 1,
+    first_cut: 100,
+    calendar: false,
+};
+
+// The numbers `last`, `count` and `age` of a summary.
+type Numbers = (u32, u32, u32);
+
+// The rules of these limits, each of which is within its range.
+fn rules_of(alloc: Global, limits: Limits) -> Result<Rules, AllocError> {
+    let limits = Limits {
+        weeks: limits.weeks.clamp(1, 52),
+        markdowns: limits.markdowns.min(12),
+        spacing: limits.spacing.clamp(1, 12),
+        first_cut: limits.first_cut.min(100),
+        ..limits
+    };
+    let calendar = free_calendar(alloc, limits.weeks)?;
+    Rules::new(alloc, limits, calendar, &LADDER)
+}
+
+fn numbers_of(s: Summary) -> Numbers {
+    (s.last, s.count, s.age)
+}
+
+// The whole numbers that stand in a text with blanks between them, and zeros.
+fn numbers(text: &str) -> [u32; 8] {
+    let mut found = [0; 8];
+    for (number, word) in found.iter_mut().zip(text.split(' ')) {
+        *number = word.parse::<u32>().unwrap_or(0);
+    }
+    found
+}
+
+// What a rung in the next week leaves, or the rule that it breaks; nothing where the calls differ or a number is out of its range.
+fn week(rules: &Rules, done: u32, s: Summary, rung: u32) -> Option<Result<Numbers, Rule>> {
+    let most = rules.markdowns().min(rules.rungs() - 1).min(rules.weeks());
+    if done >= rules.weeks()
+        || rung < 1
+        || rung > rules.rungs()
+        || s.last < 1
+        || s.last > rules.rungs()
+        || s.count > most
+        || s.age < 1
+        || s.age > rules.spacing()
+    {
+        return None;
+    }
+    match (rules.broken(done, s, rung), rules.next(done, s, rung)) {
+        (Some(rule), None) => Some(Err(rule)),
+        (None, Some(next)) => Some(Ok(numbers_of(next))),
+        _ => None,
+    }
+}
+
+// Markdowns, spacing and first cut; the weeks done; the last rung, count and age of their summary; and the rung of the next week. A
+// cut by 30 percent of 50.00 leaves 35.00.
+const WEEKS: &str = "12 1 100 0 1 0 1 1=>Ok((1, 0, 1))
+12 1 100 0 1 0 1 4=>Ok((4, 1, 1))
+12 1 100 1 3 1 1 2=>Err(Rise)
+12 1 100 3 3 2 1 4=>Ok((4, 3, 1))
+0 1 100 0 1 0 1 1=>Ok((1, 0, 1))
+0 1 100 0 1 0 1 2=>Err(Number)
+1 1 100 1 3 1 1 2=>Err(Rise)
+1 1 100 0 1 0 1 2=>Ok((2, 1, 1))
+1 1 100 1 2 1 1 3=>Err(Number)
+1 2 100 1 2 1 1 3=>Err(Number)
+12 2 100 1 2 1 1 3=>Err(Spacing)
+12 2 100 1 2 1 1 2=>Ok((2, 1, 2))
+12 2 100 2 2 1 2 3=>Ok((3, 2, 1))
+12 12 100 0 1 0 12 2=>Ok((2, 1, 1))
+12 12 100 3 2 1 3 3=>Err(Spacing)
+12 12 100 3 2 1 3 2=>Ok((2, 1, 4))
+12 1 30 0 1 0 1 4=>Ok((4, 1, 1))
+12 1 29 0 1 0 1 4=>Err(FirstCut)
+12 1 20 0 1 0 1 3=>Ok((3, 1, 1))
+12 1 19 0 1 0 1 3=>Err(FirstCut)
+12 1 0 0 1 0 1 1=>Ok((1, 0, 1))
+12 1 0 0 1 0 1 2=>Err(FirstCut)
+0 1 0 0 1 0 1 2=>Err(Number)
+12 1 10 1 1 0 1 4=>Err(FirstCut)
+12 1 10 1 2 1 1 4=>Ok((4, 2, 1))";
+
+fn is_week(alloc: Global, case: &str) -> Result<bool, AllocError> {
+    let (text, want) = sides(case);
+    let [markdowns, spacing, first_cut, done, last, count, age, rung] = numbers(text);
+    let limits = Limits {
+        markdowns,
+        spacing,
+        first_cut,
+        ..FREE
+    };
+    let rules = rules_of(alloc, limits)?;
+    let Some(got) = week(&rules, done, Summary { last, count, age }, rung) else {
+        return Ok(false);
+    };
+    Ok(format!(in alloc; "{got:?}")?.as_str() == want)
+}
+
+#[test]
+fn weeks_by_their_rules(rt: HostRuntime) -> Result<(), Fail> {
+    for case in WEEKS.lines() {
+        assert!(rt; is_week(rt.alloc(), case)?, "{case}");
+    }
+    Ok(())
+}
+
+// The place of a live summary and the one after it, by each call that tells of it.
+fn place_and_next(live: &Live, done: u32, s: Summary) -> (Option<u32>, Option<Numbers>) {
+    if !live.has(done, s) {
+        return (live.find(done, s), None);
+    }
+    (
+        Some(live.place(done, s)),
+        live.after(done, s).map(numbers_of),
+    )
+}
+
+// The weeks done, a summary's last rung, count and age, its place where it is live, and the live one after it: in two weeks with
+// one markdown and a first cut that reaches the second rung alone.
+const LIVE: &str = "0 1 0 2=>(Some(0), None)
+1 1 0 2=>(Some(0), Some((2, 1, 1)))
+1 2 1 1=>(Some(1), None)
+1 2 1 2=>(None, None)
+2 1 0 2=>(Some(0), Some((2, 1, 1)))
+2 2 1 1=>(Some(1), Some((2, 1, 2)))
+2 2 1 2=>(Some(2), None)
+3 1 0 2=>(None, None)";
+
+fn is_live(alloc: Global, live: &Live, case: &str) -> Result<bool, AllocError> {
+    let (text, want) = sides(case);
+    let [done, last, count, age, _, _, _, _] = numbers(text);
+    let got = place_and_next(live, done, Summary { last, count, age });
+    Ok(format!(in alloc; "{got:?}")?.as_str() == want)
+}
+
+// The first of the live summaries.
+const STAYED: Summary = Summary {
+    last: 1,
+    count: 0,
+    age: 2,
+};
+
+#[test]
+fn live_summaries_in_their_order(rt: HostRuntime) -> Result<(), Fail> {
+    let limits = Limits {
+        weeks: 2,
+        markdowns: 1,
+        spacing: 2,
+        first_cut: 15,
+        ..FREE
+    };
+    let rules = rules_of(rt.alloc(), limits)?;
+    assert!(rt; rules.start() == STAYED);
+    let live = Live::build(rt.alloc(), &rules)?;
+    for case in LIVE.lines() {
+        assert!(rt; is_live(rt.alloc(), &live, case)?, "{case}");
+    }
+    assert!(rt; live.first(2) == Some(STAYED) && live.count(2) == 3);
+    Ok(())
+}
+
+// The first path of so many weeks with so many markdowns, where there is one.
+fn path_of(alloc: Global, weeks: u32, markdowns: u32) -> Result<String, AllocError> {
+    let limits = Limits {
+        weeks,
+        markdowns,
+        ..FREE
+    };
+    let rules = rules_of(alloc, limits)?;
+    let live = Live::build(alloc, &rules)?;
+    if !live.any() {
+        return String::from_str(alloc, "no path");
+    }
+    let path = first_path(alloc, &rules, &live)?;
+    format!(in alloc; "{path:?}")
+}
+
+// Where no calendar forbids it, the path that stays is the first.
+#[test]
+fn first_paths(rt: HostRuntime) -> Result<(), Fail> {
+    for (weeks, markdowns, want) in [(1, 0, "[1]"), (4, 12, "[1, 1, 1, 1]"), (2, 1, "[1, 1]")] {
+        let path = path_of(rt.alloc(), weeks, markdowns)?;
+        assert!(rt; path.as_str() == want, "{want}");
+    }
+    Ok(())
+}

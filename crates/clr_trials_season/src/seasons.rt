@@ -1,0 +1,53 @@
+// Small seasons of the tests. A season is a text with a file a line: its name, and behind a blank its bytes, in which `|` stands for
+// a line feed and `@` for a byte order mark.
+use clr_io::MemoryShelf;
+use clr_season::{Season, read_season};
+use std::alloc::{AllocError, Global};
+use std::test::Fail;
+
+// The files of most seasons: two weeks and the prices 10.00 and 4.00. On rung 1 one store sells nothing or one unit in each week, and
+// on rung 2 nothing in week 1 and two units in week 2. It opens with two.
+const COMMON: &str = r#"f/rules.json {"weeks":2,"base":2}
+f/ladder.csv rung,price|1,10.00|2,4.00|
+f/stock.csv store,units,salvage|a,2,0|
+f/demand.csv store,week,rung,units,weight|a,1,1,0,1|a,1,1,1,1|a,2,1,0,1|a,2,1,1,1|a,1,2,0,2|a,2,2,2,2|"#;
+
+/// The bytes of a text as the tables write it.
+pub(crate) fn bytes_of(alloc: Global, text: &str) -> Result<Vec<u8>, AllocError> {
+    let mut bytes = Vec::new(alloc);
+    for sign in text.as_bytes() {
+        match *sign {
+            b'|' => bytes.push(b'\n')?,
+            b'@' => bytes.extend_from_slice(b"\xef\xbb\xbf")?,
+            other => bytes.push(other)?,
+        }
+    }
+    Ok(bytes)
+}
+
+// Puts the files of a text behind those of a list.
+fn put(alloc: Global, text: &str, files: &mut Vec<(String, Vec<u8>)>) -> Result<(), AllocError> {
+    for line in text.lines() {
+        let (name, bytes) = line.split_once(' ').unwrap_or((line, ""));
+        let name = String::from_str(alloc, name)?;
+        files.push((name, bytes_of(alloc, bytes)?))?;
+    }
+    Ok(())
+}
+
+/// The season of these files, and for each that is absent the common one.
+pub(crate) fn season_of(alloc: Global, text: &str) -> Result<Season, Fail> {
+    let mut files = Vec::new(alloc);
+    put(alloc, text, &mut files)?;
+    // Of two files of a name the first counts.
+    put(alloc, COMMON, &mut files)?;
+    let mut shelf = MemoryShelf::new(files, 16, Vec::new(alloc));
+    let season = read_season(alloc, &mut shelf, "f")?;
+    Ok(season)
+}
+
+/// The line behind a case's heading, and what stands behind that.
+pub(crate) fn want_and_rest(case: &str) -> (&str, &str) {
+    let (_, case) = case.split_once('\n').unwrap_or((case, ""));
+    case.split_once('\n').unwrap_or((case, ""))
+}

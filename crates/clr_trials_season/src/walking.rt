@@ -1,0 +1,82 @@
+// The places of a season's lines, one after another.
+ghost use Rattle.clr_rules.specs.LiveSummaries.{live_pairs};
+ghost use Rattle.std.specs.Prelude.{◌≡◌};
+
+use crate::seasons::season_of;
+use clr_cert::Place;
+use clr_rules::Live;
+use clr_season::Season;
+use std::alloc::{AllocError, Global};
+use std::test::Fail;
+
+// The season has one store and may be tabled with three lists of stocks.
+const WALK: &str = "Head
+Path
+Mult { week: 1, rung: 1 }
+Mult { week: 1, rung: 2 }
+Mult { week: 2, rung: 1 }
+Mult { week: 2, rung: 2 }
+Low { done: 2, store: 1 }
+High { done: 2, store: 1 }
+Value { done: 2, store: 1, s: Summary { last: 1, count: 0, age: 1 } }
+Value { done: 2, store: 1, s: Summary { last: 2, count: 1, age: 1 } }
+Joint { done: 2, s: Summary { last: 1, count: 0, age: 1 }, index: 0 }
+Joint { done: 2, s: Summary { last: 1, count: 0, age: 1 }, index: 1 }
+Joint { done: 2, s: Summary { last: 1, count: 0, age: 1 }, index: 2 }
+Joint { done: 2, s: Summary { last: 2, count: 1, age: 1 }, index: 0 }
+Joint { done: 2, s: Summary { last: 2, count: 1, age: 1 }, index: 1 }
+Joint { done: 2, s: Summary { last: 2, count: 1, age: 1 }, index: 2 }
+Low { done: 1, store: 1 }
+High { done: 1, store: 1 }
+Value { done: 1, store: 1, s: Summary { last: 1, count: 0, age: 1 } }
+Value { done: 1, store: 1, s: Summary { last: 2, count: 1, age: 1 } }
+Joint { done: 1, s: Summary { last: 1, count: 0, age: 1 }, index: 0 }
+Joint { done: 1, s: Summary { last: 1, count: 0, age: 1 }, index: 1 }
+Joint { done: 1, s: Summary { last: 1, count: 0, age: 1 }, index: 2 }
+Joint { done: 1, s: Summary { last: 2, count: 1, age: 1 }, index: 0 }
+Joint { done: 1, s: Summary { last: 2, count: 1, age: 1 }, index: 1 }
+Joint { done: 1, s: Summary { last: 2, count: 1, age: 1 }, index: 2 }
+Low { done: 0, store: 1 }
+High { done: 0, store: 1 }
+Value { done: 0, store: 1, s: Summary { last: 1, count: 0, age: 1 } }
+Joint { done: 0, s: Summary { last: 1, count: 0, age: 1 }, index: 0 }
+Joint { done: 0, s: Summary { last: 1, count: 0, age: 1 }, index: 1 }
+Joint { done: 0, s: Summary { last: 1, count: 0, age: 1 }, index: 2 }
+Revenue
+Bound
+Exact
+End
+End
+End";
+
+// Whether a place is the one of this text.
+fn is_at(alloc: Global, place: Place, text: &str) -> Result<bool, AllocError> {
+    Ok(format!(in alloc; "{place:?}")?.as_str() == text)
+}
+
+// The first place of the walk where another one comes; nothing where all are as they should be.
+fn wrong_place(
+    alloc: Global,
+    season: &Season,
+    live: &Live,
+) -> Result<Option<&'static str>, AllocError>
+    requires { live.now ≡ live_pairs season.now.rules }
+{
+    let mut place = Place::Head;
+    for line in WALK.lines() {
+        if !is_at(alloc, place, line)? {
+            return Ok(Some(line));
+        }
+        place = place.next(season, live);
+    }
+    Ok(None)
+}
+
+#[test]
+fn places_come_in_order(rt: HostRuntime) -> Result<(), Fail> {
+    let alloc = rt.alloc();
+    let season = season_of(alloc, "")?;
+    let live = Live::build(alloc, season.rules())?;
+    assert_eq!(rt; wrong_place(alloc, &season, &live)?, None);
+    Ok(())
+}
