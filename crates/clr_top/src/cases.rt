@@ -371,11 +371,14 @@ pub(crate) fn write_files(rt: &impl RealFiles, files: &[(String, Vec<u8>)]) -> R
     Ok(())
 }
 
-// The plan of a real folder.
-fn planned_on_disk(rt: &impl RealFiles, alloc: Global, folder: &str) -> Result<Answer, AllocError> {
-    let words = joined(alloc, "plan", " ", folder)?;
+// What the words ask of real folders, over a desk that takes no file.
+pub(crate) fn read_on_disk(
+    rt: &impl RealFiles,
+    alloc: Global,
+    words: &str,
+) -> Result<Answer, AllocError> {
     let mut shelf = FileShelf::new(rt);
-    run_on(alloc, words.as_str(), &mut shelf, NONE_FAILS)
+    run_on(alloc, words, &mut shelf, NONE_FAILS)
 }
 
 // The plan of a real folder is answered as it is told.
@@ -385,7 +388,8 @@ pub(crate) fn is_told_on_disk(
     folder: &str,
     told: &str,
 ) -> Result<bool, AllocError> {
-    let answer = planned_on_disk(rt, alloc, folder)?;
+    let words = joined(alloc, "plan", " ", folder)?;
+    let answer = read_on_disk(rt, alloc, words.as_str())?;
     answer.says(alloc, told)
 }
 

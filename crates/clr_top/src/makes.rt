@@ -1,7 +1,8 @@
 // Made seasons: the files that `run` makes, and the plan of them. The reports were worked with another program, written after
 // the definitions alone; the first draws of seed 1 were drawn by hand.
 use crate::cases::{
-    Answer, Held, NONE_FAILS, asked_of, asked_on_disk, bytes_of, joined, list_of, run_over,
+    Answer, Held, NONE_FAILS, asked_of, asked_on_disk, bytes_of, joined, list_of, read_on_disk,
+    run_over,
 };
 use crate::ending::Status;
 use clr_io::{MemoryDesk, MemoryShelf};
@@ -209,7 +210,7 @@ fn desks_fail_while_seasons_are_made(rt: HostRuntime) -> Result<(), Fail> {
 // A season is made in a real folder, which is there, and its plan has the same report.
 fn is_made_in_folder(rt: &impl RealFiles, alloc: Global) -> Result<bool, AllocError> {
     let answer = asked_on_disk(rt, alloc, "make made --steps 0 --nodes 0")?;
-    let again = asked_on_disk(rt, alloc, "plan made --steps 0 --nodes 0")?;
+    let again = read_on_disk(rt, alloc, "plan made --steps 0 --nodes 0")?;
     Ok(answer.status == Status::Ok && again.reports(answer.out.bytes()))
 }
 
