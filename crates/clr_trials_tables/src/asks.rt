@@ -45,11 +45,16 @@ fn numbers_of(alloc: Global, text: &str) -> Result<Vec<i64>, AllocError> {
     Ok(numbers)
 }
 
+/// A number that is a count.
+pub fn count(number: &i64) -> u32 {
+    u32::try_from(*number).unwrap_or(u32::MAX)
+}
+
 /// Numbers that are counts.
 pub fn counts_of(alloc: Global, numbers: &[i64]) -> Result<Vec<u32>, AllocError> {
     let mut counts = Vec::new(alloc);
     for number in numbers {
-        counts.push(*number as u32)?;
+        counts.push(count(number))?;
     }
     Ok(counts)
 }

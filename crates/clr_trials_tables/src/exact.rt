@@ -4,7 +4,7 @@ ghost use Rattle.clr_rules.specs.LiveSummaries.{live_pairs};
 ghost use Rattle.clr_season.specs.Season.{IsSeason};
 ghost use Rattle.std.specs.Prelude.{◌≡◌};
 
-use crate::asks::{Ask, assert_answers, counts_of};
+use crate::asks::{Ask, assert_answers, count, counts_of};
 use crate::reads::choice_at;
 use clr_joint::Joint;
 use clr_rules::Live;
@@ -50,7 +50,7 @@ pub fn opens_with(
     };
     let stocks = counts_of(alloc, stocks)?;
     let first = choice_at(season, live, joint, 0, season.rules().start(), &stocks);
-    Ok(joint.low() == *low && joint.top() == *top && first == Some(*rung as u32))
+    Ok(joint.low() == *low && joint.top() == *top && first == Some(count(rung)))
 }
 
 #[test]

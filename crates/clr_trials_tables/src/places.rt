@@ -4,7 +4,7 @@ ghost use Rattle.clr_rules.specs.LiveSummaries.{live_pairs};
 ghost use Rattle.clr_season.specs.Season.{IsSeason};
 ghost use Rattle.std.specs.Prelude.{◌≡◌};
 
-use crate::asks::{Ask, assert_answers};
+use crate::asks::{Ask, assert_answers, count};
 use crate::reads::{choice_at, values_at};
 use clr_joint::Joint;
 use clr_rules::{Live, Summary};
@@ -45,16 +45,16 @@ pub fn is_place(season: &Season, live: &Live, joint: &Joint, numbers: &[i64]) ->
     requires live { live.now ≡ live_pairs season.now.rules }
     requires table { IsJointOf season.now joint.now }
 {
-    let [done, last, count, age, stock, value, choice @ ..] = numbers else {
+    let [done, last, markdowns, age, stock, value, choice @ ..] = numbers else {
         return false;
     };
-    let done = *done as u32;
+    let done = count(done);
     let s = Summary {
-        last: *last as u32,
-        count: *count as u32,
-        age: *age as u32,
+        last: count(last),
+        count: count(markdowns),
+        age: count(age),
     };
-    let stocks = [*stock as u32];
+    let stocks = [count(stock)];
     is_choice(choice_at(season, live, joint, done, s, &stocks), choice)
         && values_at(season, live, joint, done, s, &stocks) == Some((*value, *value))
 }

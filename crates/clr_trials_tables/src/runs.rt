@@ -3,7 +3,7 @@ ghost use Rattle.clr_rules.specs.FirstPath.{SomePathObeys};
 ghost use Rattle.clr_rules.specs.LiveSummaries.{live_pairs};
 ghost use Rattle.std.specs.Prelude.{◌≡◌};
 
-use crate::asks::{Ask, answers, assert_answers};
+use crate::asks::{Ask, answers, assert_answers, count};
 use crate::seasons::{file, files, season};
 use clr_rules::Live;
 use clr_season::Season;
@@ -53,7 +53,7 @@ pub fn is_run(
     let [word, steps, bound, at_step] = numbers else {
         return Ok(false);
     };
-    let (word, steps) = (*word as u32, *steps as u32);
+    let (word, steps) = (count(word), count(steps));
     if word < 1 || word > 10 || steps > 100 {
         return Ok(false);
     }

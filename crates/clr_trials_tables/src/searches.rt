@@ -6,7 +6,7 @@ ghost use Rattle.clr_rules.specs.LiveSummaries.{live_pairs};
 ghost use Rattle.clr_storedp.specs.Tables.{AreOfSeason, AreTablesOf};
 ghost use Rattle.std.specs.Prelude.{◌≡◌};
 
-use crate::asks::{Ask, assert_answers, counts_of};
+use crate::asks::{Ask, assert_answers, count, counts_of};
 use clr_mult::Mult;
 use clr_num::Up;
 use clr_rules::Live;
@@ -70,7 +70,7 @@ pub fn is_found(
         return Ok(false);
     };
     let path = counts_of(alloc, path)?;
-    let found = search(alloc, season, live, mult, tables, *nodes as u64)?;
+    let found = search(alloc, season, live, mult, tables, u64::from(count(nodes)))?;
     Ok(
         found.path.rungs() == path.as_slice()
             && found.low == i128::from(*value)

@@ -6,7 +6,7 @@ ghost use Rattle.clr_rules.specs.LiveSummaries.{live_pairs};
 ghost use Rattle.clr_storedp.specs.Tables.{AreOfSeason, AreTablesOf};
 ghost use Rattle.std.specs.Prelude.{◌≡◌, length};
 
-use crate::asks::{Ask, assert_answers};
+use crate::asks::{Ask, assert_answers, count};
 use clr_mult::{Mult, Usage};
 use clr_num::Up;
 use clr_rules::Live;
@@ -68,8 +68,8 @@ pub fn is_share(
         return Ok(false);
     };
     let used = usage(alloc, season, live, mult, tables)?;
-    let share = share(season, &used, *store as u32, *week as u32, *rung as u32);
-    Ok(share == Some(*mass as u32))
+    let share = share(season, &used, count(store), count(week), count(rung));
+    Ok(share == Some(count(mass)))
 }
 
 #[test]
