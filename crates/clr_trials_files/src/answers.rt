@@ -18,11 +18,16 @@ pub fn number(text: &str) -> i64 {
     text.parse::<i64>().unwrap_or(0)
 }
 
+/// A number of a case that is a count or a row.
+pub fn count(text: &str) -> usize {
+    usize::try_from(number(text)).unwrap_or(0)
+}
+
 /// The answer of a case.
 pub fn want_of(text: &str) -> Want<'_> {
     let (row, rest) = text.split_once(' ').unwrap_or(("0", text));
     Want {
-        row: number(row) as usize,
+        row: count(row),
         rest,
     }
 }
@@ -37,10 +42,10 @@ fn are_its_claims(claims: &Claims) -> bool {
 }
 
 // The row of an answer that is no acceptance, and the rest of its text.
-fn shown(alloc: Global, error: CheckError) -> Result<(u64, String), AllocError> {
+fn shown(alloc: Global, error: CheckError) -> Result<(usize, String), AllocError> {
     Ok(match error {
         CheckError::No(no) => (
-            no.row,
+            usize::try_from(no.row).unwrap_or(0),
             format!(in alloc; "{:?} {} {}", no.kind, no.left, no.right)?,
         ),
         error => (0, format!(in alloc; "{error}")?),
@@ -59,7 +64,7 @@ fn is_answer(
         Ok(claims) => Ok(want.rest == "yes" && are_its_claims(&claims)),
         Err(error) => {
             let (row, rest) = shown(alloc, error)?;
-            Ok(row == want.row as u64 && rest.as_str() == want.rest)
+            Ok(row == want.row && rest.as_str() == want.rest)
         }
     }
 }
@@ -69,11 +74,11 @@ fn shelf_of(
     alloc: Global,
     text: &[u8],
     piece: usize,
-    call: u64,
+    call: usize,
 ) -> Result<MemoryShelf, AllocError> {
     let mut files = Vec::new(alloc);
     files.push((String::from_str(alloc, "c")?, text.to_vec(alloc)?))?;
-    Ok(MemoryShelf::new(files, piece.max(1), [call].to_vec(alloc)?))
+    Ok(MemoryShelf::new(files, piece.max(1), [call as u64].to_vec(alloc)?))
 }
 
 /// Whether the checker answers this for the certificate of a name on a shelf whose file `c` has this text, which is read by so many bytes,
@@ -84,7 +89,7 @@ pub fn is_answered_over(
     name: &str,
     text: &[u8],
     piece: usize,
-    call: u64,
+    call: usize,
     want: Want<'_>,
 ) -> Result<bool, AllocError> {
     let mut shelf = shelf_of(alloc, text, piece, call)?;

@@ -1,5 +1,5 @@
 // Certificates on shelves in memory, by reads of several lengths.
-use crate::answers::{is_answered, is_answered_over, number, want_of};
+use crate::answers::{count, is_answered, is_answered_over, want_of};
 use crate::asks::{Ask, assert_answers};
 use crate::seasons::{bytes_of, spliced};
 use clr_season::Season;
@@ -74,10 +74,10 @@ const OF_TWO_STORES: &str = "clearance certificate 1|path,2|m,1,1,-250000000,250
 
 // The text of a case.
 fn text_of(alloc: Global, text: &str) -> Result<Vec<u8>, AllocError> {
-    let (front, count) = text.split_once('*').unwrap_or((text, "1"));
+    let (front, times) = text.split_once('*').unwrap_or((text, "1"));
     let mut bytes = bytes_of(alloc, front)?;
     let last = bytes.last().copied().unwrap_or(b'1');
-    for _ in 1..number(count) {
+    for _ in 1..count(times) {
         bytes.push(last)?;
     }
     Ok(bytes)
@@ -146,14 +146,13 @@ pub fn is_fault_answered(alloc: Global, season: &Season, case: &str) -> Result<b
     let (place, want) = case.split_once(';').unwrap_or((case, ""));
     let (name, place) = place.split_once(' ').unwrap_or((place, ""));
     let (piece, call) = place.split_once(' ').unwrap_or((place, ""));
-    let (piece, call) = (number(piece), number(call) as u64);
     is_answered_over(
         alloc,
         season,
         name,
         b"a\nb\nc",
-        piece as usize,
-        call,
+        count(piece),
+        count(call),
         want_of(want),
     )
 }

@@ -4,7 +4,7 @@
 // lowered is refused in its own line where it stands at the limit of its condition on that side. On the other side it is refused in
 // the first line whose condition takes it and has no room left; and where no condition without room takes it, the certificate is still
 // accepted, and what it claims still holds. A number that the season determines may have no other value at all.
-use crate::answers::{Want, is_answered_over, number, want_of};
+use crate::answers::{Want, count, is_answered_over, number, want_of};
 use crate::asks::{Ask, assert_answers};
 use crate::seasons::{CERTIFICATE, add_rows, spliced};
 use clr_season::Season;
@@ -120,7 +120,7 @@ const ANSWERS: &str = "
 fn answers_of(line: &str, row: usize, field: usize) -> Option<(&str, &str)> {
     let (place, answers) = line.split_once(": ")?;
     let (of_row, of_field) = place.split_once(' ')?;
-    if number(of_row) as usize == row && number(of_field) as usize == field {
+    if count(of_row) == row && count(of_field) == field {
         answers.split_once(" / ")
     } else {
         None
