@@ -1,63 +1,16 @@
 // Certificates on shelves in memory, by reads of several lengths.
-use crate::seasons::{ADAPTIVE, TWO_STORES, answer_of, answer_on, cut_after, season_of, with_line};
-use clr_check::{Claims, check_file};
-use clr_io::MemoryShelf;
+use crate::answers::{count, is_answered, is_answered_over, want_of};
+use crate::asks::{Ask, assert_answers};
+use crate::seasons::{bytes_of, spliced};
 use clr_season::Season;
 use std::alloc::{AllocError, Global};
 use std::test::Fail;
 
-const PIECES: [usize; 3] = [1, 16, 65_536];
+// The cases are lines: a text, and behind `;` the answer, which is `yes`, or the row of a refusal with its kind and its two sides. In the
+// text `|` stands for a line feed, `^` for a carriage return, `!` for a byte that is no UTF-8, and `1*65530` at its end for so many ones.
 
-const ABSENT: &str = "there is no such certificate";
-
-const FAILED: &str = "the certificate could not be read";
-
-// Whether the checker answers this, however the reads are cut.
-fn is_answered(
-    alloc: Global,
-    season: &Season,
-    text: &[u8],
-    want: &str,
-) -> Result<bool, AllocError> {
-    for piece in PIECES {
-        if answer_of(alloc, season, text, piece)?.as_str() != want {
-            return Ok(false);
-        }
-    }
-    Ok(true)
-}
-
-// Whether these are the claims of the certificate.
-fn are_its_claims(claims: &Claims) -> bool {
-    claims.path.rungs() == [1, 2].as_slice()
-        && claims.low == 1_100_000_000
-        && claims.high == 1_100_000_000
-        && claims.bound == 1_150_000_000
-        && claims.exact == Some((1_150_000_000, 1_150_000_000))
-}
-
-// Whether the certificate is accepted, and claims what it says.
-fn is_claimed(alloc: Global, season: &Season) -> Result<bool, AllocError> {
-    let mut files = Vec::new(alloc);
-    files.push((String::from_str(alloc, "c")?, with_line(alloc, 0, b"")?))?;
-    let mut shelf = MemoryShelf::new(files, 16, Vec::new(alloc));
-    Ok(match check_file(alloc, season, &mut shelf, "c") {
-        Ok(claims) => are_its_claims(&claims),
-        Err(_) => false,
-    })
-}
-
-#[test]
-fn a_whole_certificate_is_accepted(rt: HostRuntime) -> Result<(), Fail> {
-    let season = season_of(rt.alloc(), &ADAPTIVE)?;
-    let text = with_line(rt.alloc(), 0, b"")?;
-    assert!(rt; is_answered(rt.alloc(), &season, &text, "yes")?);
-    assert!(rt; is_claimed(rt.alloc(), &season)?);
-    Ok(())
-}
-
-// Texts of lines, and the row in whose place each is put, with the kind and the sides of its refusal. A line is judged by its form
-// first, then by the ranges of its numbers, then by its conditions.
+// Lines that are put in the place of the row that is refused. A line is judged by its form first, then by the ranges of its numbers, then
+// by its conditions.
 const CHANGED: &str = "clearance certificate 2;1 Form 0 0
 clearance certificate 0;1 Form 0 0
 clearance certificate 1 ;1 Form 0 0
@@ -98,147 +51,113 @@ revenue,100000000000000000000,1100000001;33 Total 100000000000000000000 11000000
 bound,-100000000000000000000;34 Total -100000000000000000000 1150000000
 exact,1150000002,1150000001;35 Total 1150000002 1150000000";
 
-// The row of a refusal.
-fn row_of(refusal: &str) -> usize {
-    let (row, _) = refusal.split_once(' ').unwrap_or((refusal, ""));
-    row.parse::<usize>().unwrap_or(0)
+// A carriage return at the end of a line belongs to it, and a line is valid UTF-8. A line of 65,536 bytes is judged by its numbers, and a
+// longer one by its form.
+const LINES: &str = "path,1,2^;2 Form 0 0
+l,1,1,0,400000000,80000000!;17 Form 0 0
+bound,1*65530;34 Range 0 0
+bound,1*65531;34 Form 0 0";
+
+// Texts that stand behind the rows before the one that is refused, or behind all rows.
+const WHOLE: &str = ";yes";
+
+const ENDS: &str = "h,1,1;18 Short 0 0
+;18 Short 0 0
+x;36 Extra 0 0
+x|y|;36 Extra 0 0
+;1 Short 0 0
+l*65537;18 Form 0 0
+l*65537;36 Extra 0 0";
+
+// Whole certificates.
+const OF_TWO_STORES: &str = "clearance certificate 1|path,2|m,1,1,-250000000,250000001|;3 Sum 1 0";
+
+// The text of a case.
+fn text_of(alloc: Global, text: &str) -> Result<Vec<u8>, AllocError> {
+    let (front, times) = text.split_once('*').unwrap_or((text, "1"));
+    let mut bytes = bytes_of(alloc, front)?;
+    let last = bytes.last().copied().unwrap_or(b'1');
+    for _ in 1..count(times) {
+        bytes.push(last)?;
+    }
+    Ok(bytes)
 }
 
-// The first case that isn't answered as it must; nothing where each is.
-fn wrong_change(alloc: Global, season: &Season) -> Result<String, AllocError> {
-    for case in CHANGED.lines() {
-        let (line, want) = case.split_once(';').unwrap_or(("", case));
-        let text = with_line(alloc, row_of(want), line.as_bytes())?;
-        if !is_answered(alloc, season, &text, want)? {
-            return String::from_str(alloc, case);
-        }
+/// Whether a certificate is answered as it must, in which a text stands alone, in the place of a row or behind it.
+pub fn is_text_answered(
+    alloc: Global,
+    ask: Ask,
+    season: &Season,
+    case: &str,
+) -> Result<bool, AllocError> {
+    let (text, want) = case.split_once(';').unwrap_or((case, ""));
+    let want = want_of(want);
+    let mut text = text_of(alloc, text)?;
+    let (kept, from) = match ask {
+        Ask::Line => (want.row.saturating_sub(1), want.row),
+        Ask::End if want.row > 0 => (want.row.saturating_sub(1), 35),
+        Ask::End => (35, 35),
+        _ => (0, 35),
+    };
+    if matches!(ask, Ask::Line) {
+        text.push(b'\n')?;
     }
-    Ok(String::new(alloc))
+    is_answered(alloc, season, &spliced(alloc, kept, &text, from)?, want)
+}
+
+#[test]
+fn a_whole_certificate_is_accepted(rt: HostRuntime) -> Result<(), Fail> {
+    assert_answers(&rt, rt.alloc(), Ask::End, "adaptive", WHOLE)
 }
 
 #[test]
 fn a_changed_line_is_refused(rt: HostRuntime) -> Result<(), Fail> {
-    let season = season_of(rt.alloc(), &ADAPTIVE)?;
-    let wrong = wrong_change(rt.alloc(), &season)?;
-    assert!(rt; wrong.is_empty(), "{wrong}");
-    Ok(())
-}
-
-// A carriage return at the end of a line belongs to it, and a line is valid UTF-8.
-fn lines_are_text(alloc: Global, season: &Season) -> Result<bool, AllocError> {
-    let returned = with_line(alloc, 2, b"path,1,2\r")?;
-    let strange = with_line(alloc, 17, b"l,1,1,0,400000000,80000000\xff")?;
-    Ok(
-        is_answered(alloc, season, &returned, "2 Form 0 0")?
-            && is_answered(alloc, season, &strange, "17 Form 0 0")?,
-    )
-}
-
-// A line of 65,536 bytes is judged by its numbers, and a longer one by its form.
-fn lines_are_long(alloc: Global, season: &Season) -> Result<bool, AllocError> {
-    for (digits, want) in [(65_530, "34 Range 0 0"), (65_531, "34 Form 0 0")] {
-        let mut line = b"bound,".to_vec(alloc)?;
-        line.extend_from_slice(&vec![in alloc; b'1'; digits]?)?;
-        let text = with_line(alloc, 34, &line)?;
-        if !is_answered(alloc, season, &text, want)? {
-            return Ok(false);
-        }
-    }
-    Ok(true)
+    assert_answers(&rt, rt.alloc(), Ask::Line, "adaptive", CHANGED)
 }
 
 #[test]
 fn a_line_is_text_of_at_most_65_536_bytes(rt: HostRuntime) -> Result<(), Fail> {
-    let season = season_of(rt.alloc(), &ADAPTIVE)?;
-    assert!(rt; lines_are_text(rt.alloc(), &season)?);
-    assert!(rt; lines_are_long(rt.alloc(), &season)?);
-    Ok(())
-}
-
-// Rows of the certificate that stand, what stands behind them, and the answer.
-const ENDS: [(usize, &str, &str); 5] = [
-    (17, "h,1,1", "18 Short 0 0"),
-    (17, "", "18 Short 0 0"),
-    (35, "x", "36 Extra 0 0"),
-    (35, "x\ny\n", "36 Extra 0 0"),
-    (0, "", "1 Short 0 0"),
-];
-
-// The first case that isn't answered as it must; nothing where each is.
-fn wrong_end(alloc: Global, season: &Season) -> Result<String, AllocError> {
-    for (rows, rest, want) in ENDS {
-        let text = cut_after(alloc, rows, rest.as_bytes())?;
-        if !is_answered(alloc, season, &text, want)? {
-            return format!(in alloc; "{rows} {rest}");
-        }
-    }
-    let long = vec![in alloc; b'l'; 65_537]?;
-    for (rows, want) in [(17, "18 Form 0 0"), (35, "36 Extra 0 0")] {
-        let text = cut_after(alloc, rows, &long)?;
-        if !is_answered(alloc, season, &text, want)? {
-            return format!(in alloc; "{rows} of 65,537 bytes");
-        }
-    }
-    Ok(String::new(alloc))
+    assert_answers(&rt, rt.alloc(), Ask::Line, "adaptive", LINES)
 }
 
 #[test]
 fn a_certificate_ends_with_its_last_line(rt: HostRuntime) -> Result<(), Fail> {
-    let season = season_of(rt.alloc(), &ADAPTIVE)?;
-    let wrong = wrong_end(rt.alloc(), &season)?;
-    assert!(rt; wrong.is_empty(), "{wrong}");
-    Ok(())
+    assert_answers(&rt, rt.alloc(), Ask::End, "adaptive", ENDS)
 }
 
 #[test]
 fn multipliers_cancel_over_the_stores(rt: HostRuntime) -> Result<(), Fail> {
-    let season = season_of(rt.alloc(), &TWO_STORES)?;
-    let text = b"clearance certificate 1\npath,2\nm,1,1,-250000000,250000001\n";
-    assert!(rt; is_answered(rt.alloc(), &season, text, "3 Sum 1 0")?);
-    Ok(())
+    assert_answers(&rt, rt.alloc(), Ask::Alone, "two_stores", OF_TWO_STORES)
 }
 
-// What the checker answers for three lines that are no certificate, where the shelf fails at a call.
-fn answer_over(
-    alloc: Global,
-    season: &Season,
-    name: &str,
-    piece: usize,
-    call: u64,
-) -> Result<String, AllocError> {
-    let mut files = Vec::new(alloc);
-    files.push((String::from_str(alloc, "c")?, b"a\nb\nc".to_vec(alloc)?))?;
-    let mut shelf = MemoryShelf::new(files, piece.max(1), [call].to_vec(alloc)?);
-    answer_on(alloc, season, &mut shelf, name)
-}
+// A name, the length of the shelf's reads, the call that fails, and the answer for three lines that are no certificate. After a fault of
+// the certificate the file is read to its end, so a fault of the shelf is told in its place. The calls are the opening, the reads, and the
+// read at the end. An answer that is no refusal of a row has the row 0.
+const FAULTS: &str = "d 16 9;0 there is no such certificate
+d 16 1;0 the certificate could not be read
+c 16 1;0 the certificate could not be read
+c 1 2;0 the certificate could not be read
+c 1 7;0 the certificate could not be read
+c 1 8;1 Form 0 0
+c 16 3;0 the certificate could not be read";
 
-// A name, the length of the shelf's reads, the call that fails, and the answer. After a fault of the certificate the file is read to its
-// end, so a fault of the shelf is told in its place. The calls are the opening, the reads, and the read at the end.
-const FAULTS: [(&str, usize, u64, &str); 7] = [
-    ("d", 16, 9, ABSENT),
-    ("d", 16, 1, FAILED),
-    ("c", 16, 1, FAILED),
-    ("c", 1, 2, FAILED),
-    ("c", 1, 7, FAILED),
-    ("c", 1, 8, "1 Form 0 0"),
-    ("c", 16, 3, FAILED),
-];
-
-// The first case that isn't answered as it must; nothing where each is.
-fn wrong_fault(alloc: Global, season: &Season) -> Result<String, AllocError> {
-    for (name, piece, call, want) in FAULTS {
-        let answer = answer_over(alloc, season, name, piece, call)?;
-        if answer.as_str() != want {
-            return format!(in alloc; "{name} {piece} {call}: {answer}");
-        }
-    }
-    Ok(String::new(alloc))
+/// Whether the checker answers as it must over a shelf that fails at a call.
+pub fn is_fault_answered(alloc: Global, season: &Season, case: &str) -> Result<bool, AllocError> {
+    let (place, want) = case.split_once(';').unwrap_or((case, ""));
+    let (name, place) = place.split_once(' ').unwrap_or((place, ""));
+    let (piece, call) = place.split_once(' ').unwrap_or((place, ""));
+    is_answered_over(
+        alloc,
+        season,
+        name,
+        b"a\nb\nc",
+        count(piece),
+        count(call),
+        want_of(want),
+    )
 }
 
 #[test]
 fn what_the_shelf_answers_comes_first(rt: HostRuntime) -> Result<(), Fail> {
-    let season = season_of(rt.alloc(), &ADAPTIVE)?;
-    let wrong = wrong_fault(rt.alloc(), &season)?;
-    assert!(rt; wrong.is_empty(), "{wrong}");
-    Ok(())
+    assert_answers(&rt, rt.alloc(), Ask::Fault, "adaptive", FAULTS)
 }

@@ -4,7 +4,9 @@
 // lowered is refused in its own line where it stands at the limit of its condition on that side. On the other side it is refused in
 // the first line whose condition takes it and has no room left; and where no condition without room takes it, the certificate is still
 // accepted, and what it claims still holds. A number that the season determines may have no other value at all.
-use crate::seasons::{ADAPTIVE, CERTIFICATE, answer_of, cut_after, season_of, with_line};
+use crate::answers::{Want, count, is_answered_over, number, want_of};
+use crate::asks::{Ask, assert_answers};
+use crate::seasons::{CERTIFICATE, add_rows, spliced};
 use clr_season::Season;
 use std::alloc::{AllocError, Global};
 use std::test::Fail;
@@ -114,176 +116,186 @@ const ANSWERS: &str = "
 35 2: 35 Total 1150000001 1150000000 / 35 Total 1149999999 1150000000
 ";
 
-// The answer where the number of a row and a field is raised or lowered by one: that of the table, or for a number that the season
-// determines that the line isn't the next.
-fn answer_for(alloc: Global, row: usize, field: usize, by: i64) -> Result<String, AllocError> {
-    let place = format!(in alloc; "{row} {field}: ")?;
-    for line in ANSWERS.lines() {
-        if let Some(answers) = line.strip_prefix(place.as_str()) {
-            let (raised, lowered) = answers.split_once(" / ").unwrap_or(("", ""));
-            return String::from_str(alloc, if by > 0 { raised } else { lowered });
-        }
+// The two answers of a line of the table, where it is that of this row and field.
+fn answers_of(line: &str, row: usize, field: usize) -> Option<(&str, &str)> {
+    let (place, answers) = line.split_once(": ")?;
+    let (of_row, of_field) = place.split_once(' ')?;
+    if count(of_row) == row && count(of_field) == field {
+        answers.split_once(" / ")
+    } else {
+        None
     }
-    format!(in alloc; "{row} Form 0 0")
 }
 
-// A line, with the number in a field changed by so much.
-fn changed_line(alloc: Global, line: &str, field: usize, by: i64) -> Result<String, AllocError> {
-    let mut text = String::new(alloc);
-    for (index, part) in line.split(',').enumerate() {
-        if index > 0 {
-            text.push(',')?;
-        }
-        if index == field {
-            let number = part.parse::<i64>().unwrap_or(0).wrapping_add(by);
-            text.push_str(format!(in alloc; "{number}")?.as_str())?;
-        } else {
-            text.push_str(part)?;
+// The answers where the number of a row and a field is raised and lowered by one: those of the table, or for a number that the season
+// determines that the line isn't the next.
+fn answers_for(row: usize, field: usize) -> (Want<'static>, Want<'static>) {
+    for line in ANSWERS.lines() {
+        if let Some((raised, lowered)) = answers_of(line, row, field) {
+            return (want_of(raised), want_of(lowered));
         }
     }
+    (form(row), form(row))
+}
+
+// The refusal of a row that isn't the next.
+fn form(row: usize) -> Want<'static> {
+    Want {
+        row,
+        rest: "Form 0 0",
+    }
+}
+
+// Adds a number that is changed by so much.
+fn add_number(alloc: Global, text: &mut Vec<u8>, part: &str, by: i64) -> Result<(), AllocError> {
+    let changed = number(part).wrapping_add(by);
+    let changed = format!(in alloc; "{changed}")?;
+    text.extend_from_slice(changed.as_bytes())
+}
+
+// A line with its line feed, and with the number in a field changed by so much.
+fn changed_line(alloc: Global, line: &str, field: usize, by: i64) -> Result<Vec<u8>, AllocError> {
+    let mut text = Vec::new(alloc);
+    for (index, part) in line.split(',').enumerate() {
+        if index > 0 {
+            text.push(b',')?;
+        }
+        if index == field {
+            add_number(alloc, &mut text, part, by)?;
+        } else {
+            text.extend_from_slice(part.as_bytes())?;
+        }
+    }
+    text.push(b'\n')?;
     Ok(text)
 }
 
-// Whether the checker answers as it must where the number in a field of a row is changed by so much.
+// Whether the checker answers this for a certificate.
 fn is_answered(
+    alloc: Global,
+    season: &Season,
+    text: &[u8],
+    want: Want<'_>,
+) -> Result<bool, AllocError> {
+    is_answered_over(alloc, season, "c", text, PIECE, 0, want)
+}
+
+// Whether the checker answers this where a text stands in the place of a row.
+fn is_row_answered(
+    alloc: Global,
+    season: &Season,
+    row: usize,
+    text: &[u8],
+    want: Want<'_>,
+) -> Result<bool, AllocError> {
+    let text = spliced(alloc, row.saturating_sub(1), text, row)?;
+    is_answered(alloc, season, &text, want)
+}
+
+/// Whether the checker answers as it must where each number of a row is raised and lowered by one.
+pub fn are_numbers_answered(
     alloc: Global,
     season: &Season,
     row: usize,
     line: &str,
-    field: usize,
-    by: i64,
 ) -> Result<bool, AllocError> {
-    let changed = changed_line(alloc, line, field, by)?;
-    let text = with_line(alloc, row, changed.as_bytes())?;
-    let want = answer_for(alloc, row, field, by)?;
-    Ok(answer_of(alloc, season, &text, PIECE)? == want)
-}
-
-// The first row and field that isn't answered as it must; nothing where each is.
-fn wrong_number(alloc: Global, season: &Season) -> Result<String, AllocError> {
-    for (index, line) in CERTIFICATE.lines().enumerate() {
-        let row = index + 1;
-        for field in 1..line.split(',').count() {
-            for by in [1, -1] {
-                if !is_answered(alloc, season, row, line, field, by)? {
-                    return format!(in alloc; "{row} {field} {by}");
-                }
+    for field in 1..line.split(',').count() {
+        let (raised, lowered) = answers_for(row, field);
+        for (by, want) in [(1, raised), (-1, lowered)] {
+            let text = changed_line(alloc, line, field, by)?;
+            if !is_row_answered(alloc, season, row, &text, want)? {
+                return Ok(false);
             }
         }
     }
-    Ok(String::new(alloc))
+    Ok(true)
 }
 
 #[test]
 fn each_number_is_raised_and_lowered(rt: HostRuntime) -> Result<(), Fail> {
-    let season = season_of(rt.alloc(), &ADAPTIVE)?;
-    let wrong = wrong_number(rt.alloc(), &season)?;
-    assert!(rt; wrong.is_empty(), "{wrong}");
-    Ok(())
+    assert_answers(&rt, rt.alloc(), Ask::Numbers, "adaptive", CERTIFICATE)
 }
 
-// What is done with a line.
-#[derive(Clone, Copy, Debug)]
-enum Change {
-    Dropped,
-    Doubled,
-    Swapped,
-}
-
-// Which line stands at a place, where a row is dropped, doubled, or swapped with the next. Lines and places are counted from 0.
-fn line_at(place: usize, row: usize, change: Change) -> usize {
-    let (before, behind) = (place.saturating_sub(1), place.saturating_add(1));
-    match change {
-        Change::Dropped if behind >= row => behind,
-        Change::Doubled if place >= row => before,
-        Change::Swapped if behind == row => behind,
-        Change::Swapped if place == row => before,
-        _ => place,
-    }
-}
-
-// The certificate with a row changed; rows are counted from 1.
-fn changed_lines(alloc: Global, row: usize, change: Change) -> Result<Vec<u8>, AllocError> {
-    let mut bytes = Vec::new(alloc);
-    for place in 0..36 {
-        if let Some(line) = CERTIFICATE.lines().nth(line_at(place, row, change)) {
-            bytes.extend_from_slice(line.as_bytes())?;
-            bytes.push(b'\n')?;
+// Whether the row where it is dropped is refused. No two lines have the same keys, so the first row whose line is another isn't the next.
+fn is_dropped(alloc: Global, season: &Season, row: usize) -> Result<bool, AllocError> {
+    let want = if row == 35 {
+        Want {
+            row,
+            rest: "Short 0 0",
         }
-    }
-    Ok(bytes)
+    } else {
+        form(row)
+    };
+    is_row_answered(alloc, season, row, b"", want)
 }
 
-// The row and the kind of the refusal. No two lines have the same keys, so the first row whose line is another isn't the next.
-fn refusal_of(row: usize, change: Change) -> (usize, &'static str) {
-    match change {
-        Change::Dropped if row == 35 => (row, "Short"),
-        Change::Doubled if row == 35 => (36, "Extra"),
-        Change::Doubled => (row.saturating_add(1), "Form"),
-        _ => (row, "Form"),
-    }
-}
-
-// Whether the checker refuses the certificate with a row changed.
-fn is_refused(
-    alloc: Global,
-    season: &Season,
-    row: usize,
-    change: Change,
-) -> Result<bool, AllocError> {
-    let text = changed_lines(alloc, row, change)?;
-    let (at, kind) = refusal_of(row, change);
-    let want = format!(in alloc; "{at} {kind} 0 0")?;
-    Ok(answer_of(alloc, season, &text, PIECE)? == want)
-}
-
-// The first row that isn't refused as it must where it is dropped, doubled or swapped; nothing where each is.
-fn wrong_line(alloc: Global, season: &Season) -> Result<String, AllocError> {
-    for row in 1..36 {
-        for change in [Change::Dropped, Change::Doubled, Change::Swapped] {
-            let is_last = row == 35 && matches!(change, Change::Swapped);
-            if !is_last && !is_refused(alloc, season, row, change)? {
-                return format!(in alloc; "{row} {change:?}");
-            }
+// Whether the row behind a doubled one is refused.
+fn is_doubled(alloc: Global, season: &Season, row: usize) -> Result<bool, AllocError> {
+    let want = if row == 35 {
+        Want {
+            row: 36,
+            rest: "Extra 0 0",
         }
+    } else {
+        form(row.saturating_add(1))
+    };
+    let text = spliced(alloc, row, b"", row.saturating_sub(1))?;
+    is_answered(alloc, season, &text, want)
+}
+
+// Whether a row that is swapped with the next is refused; nothing is behind the last.
+fn is_swapped(alloc: Global, season: &Season, row: usize) -> Result<bool, AllocError> {
+    if row == 35 {
+        return Ok(true);
     }
-    Ok(String::new(alloc))
+    let mut swapped = Vec::new(alloc);
+    add_rows(&mut swapped, row, row.saturating_add(1))?;
+    add_rows(&mut swapped, row.saturating_sub(1), row)?;
+    let text = spliced(
+        alloc,
+        row.saturating_sub(1),
+        &swapped,
+        row.saturating_add(1),
+    )?;
+    is_answered(alloc, season, &text, form(row))
+}
+
+/// Whether the checker refuses as it must where a row is dropped, doubled and swapped with the next.
+pub fn are_lines_answered(alloc: Global, season: &Season, row: usize) -> Result<bool, AllocError> {
+    Ok(
+        is_dropped(alloc, season, row)?
+            && is_doubled(alloc, season, row)?
+            && is_swapped(alloc, season, row)?,
+    )
 }
 
 #[test]
 fn each_line_is_dropped_doubled_and_swapped(rt: HostRuntime) -> Result<(), Fail> {
-    let season = season_of(rt.alloc(), &ADAPTIVE)?;
-    let wrong = wrong_line(rt.alloc(), &season)?;
-    assert!(rt; wrong.is_empty(), "{wrong}");
-    Ok(())
+    assert_answers(&rt, rt.alloc(), Ask::Changes, "adaptive", CERTIFICATE)
 }
 
-// Whether the checker misses a row where of it only so many bytes stand, and all of the rows before it.
-fn is_short(alloc: Global, season: &Season, row: usize, front: &[u8]) -> Result<bool, AllocError> {
-    let text = cut_after(alloc, row.saturating_sub(1), front)?;
-    let want = format!(in alloc; "{row} Short 0 0")?;
-    Ok(answer_of(alloc, season, &text, PIECE)? == want)
-}
-
-// The first row and number of its bytes behind which a cut isn't refused as it must; nothing where each is. A line is missing where
-// its line feed is.
-fn wrong_cut(alloc: Global, season: &Season) -> Result<String, AllocError> {
-    for (index, line) in CERTIFICATE.lines().enumerate() {
-        let row = index + 1;
-        let bytes = line.as_bytes();
-        for count in 0..=bytes.len() {
-            if !is_short(alloc, season, row, &bytes[..count])? {
-                return format!(in alloc; "{row} {count}");
-            }
+/// Whether the checker misses a row behind each number of its bytes. A line is missing where its line feed is.
+pub fn are_cuts_answered(
+    alloc: Global,
+    season: &Season,
+    row: usize,
+    line: &str,
+) -> Result<bool, AllocError> {
+    let bytes = line.as_bytes();
+    let want = Want {
+        row,
+        rest: "Short 0 0",
+    };
+    for count in 0..=bytes.len() {
+        let text = spliced(alloc, row.saturating_sub(1), &bytes[..count], 35)?;
+        if !is_answered(alloc, season, &text, want)? {
+            return Ok(false);
         }
     }
-    Ok(String::new(alloc))
+    Ok(true)
 }
 
 #[test]
 fn it_is_cut_after_each_byte(rt: HostRuntime) -> Result<(), Fail> {
-    let season = season_of(rt.alloc(), &ADAPTIVE)?;
-    let wrong = wrong_cut(rt.alloc(), &season)?;
-    assert!(rt; wrong.is_empty(), "{wrong}");
-    Ok(())
+    assert_answers(&rt, rt.alloc(), Ask::Cuts, "adaptive", CERTIFICATE)
 }

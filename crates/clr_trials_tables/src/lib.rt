@@ -3,11 +3,11 @@
 #![tactic(auto)]
 
 #[cfg(test)]
+mod asks;
+#[cfg(test)]
 mod bounds;
 #[cfg(test)]
 mod exact;
-#[cfg(test)]
-mod folders;
 #[cfg(test)]
 mod limits;
 #[cfg(test)]
@@ -18,5 +18,7 @@ mod reads;
 mod runs;
 #[cfg(test)]
 mod searches;
+#[cfg(test)]
+mod seasons;
 #[cfg(test)]
 mod shares;
