@@ -11,7 +11,7 @@ use crate::places::is_place;
 use crate::reads::table;
 use crate::runs::is_run;
 use crate::searches::is_found;
-use crate::seasons::{files, season};
+use crate::seasons::season_of;
 use crate::shares::is_share;
 use clr_mult::Mult;
 use clr_rules::Live;
@@ -120,12 +120,17 @@ pub fn answers(
     }
 }
 
+// Whether a season answers with the numbers of a text.
+fn answers_text(alloc: Global, ask: Ask, season: &Season, text: &str) -> Result<bool, AllocError> {
+    let numbers = numbers_of(alloc, text)?;
+    answers(alloc, ask, season, &numbers)
+}
+
 // Whether the season of a case answers with its numbers.
 fn is_answered(alloc: Global, ask: Ask, case: &str) -> Result<bool, Fail> {
-    let (name, rest) = case.split_once(": ").unwrap_or((case, ""));
-    let numbers = numbers_of(alloc, rest)?;
-    let season = season(alloc, files(alloc, name)?)?;
-    Ok(answers(alloc, ask, &season, &numbers)?)
+    let (name, text) = case.split_once(": ").unwrap_or((case, ""));
+    let season = season_of(alloc, name)?;
+    Ok(answers_text(alloc, ask, &season, text)?)
 }
 
 /// Asserts that each case of a table is answered. A case is a line: the name of a season, and behind `: ` numbers, with words that

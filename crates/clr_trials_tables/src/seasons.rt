@@ -145,3 +145,8 @@ pub fn season(alloc: Global, files: Vec<(String, Vec<u8>)>) -> Result<Season, Fa
     let season = read_season(alloc, &mut shelf, "f")?;
     Ok(season)
 }
+
+/// The season of this name.
+pub fn season_of(alloc: Global, name: &str) -> Result<Season, Fail> {
+    season(alloc, files(alloc, name)?)
+}
