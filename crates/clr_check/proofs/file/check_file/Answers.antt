@@ -3,7 +3,6 @@ use Rattle.std.specs.Prelude.{Some, IsErrOf, IsOk, Ok, Err}
 use Rattle.clr_cert.specs.Accepts.{Accepts, first_no}
 use Rattle.clr_cert.specs.declared.claims.Claims.{Claims}
 use Rattle.clr_cert.specs.declared.no.No.{No}
-use Rattle.clr_check.specs.FileChecks.{IsFedFile}
 use Rattle.clr_check.specs.Standing.{IsClaimOf, ended_text}
 use Rattle.clr_check.specs.declared.file.CheckError.{CheckError}
 use Rattle.clr_check.specs.declared.file.CheckError.TheVariants as e
