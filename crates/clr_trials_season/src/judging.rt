@@ -1,4 +1,6 @@
 // What policies earn, and what stands against them. Values are in units, of which a cent has 10^6.
+ghost use Rattle.clr_policy.specs.Written.{IsPolicy, written};
+
 use crate::seasons::{season_of, want_and_rest};
 use clr_num::{Direction, Down, Up};
 use clr_policy::{Policy, judge, objects, read_policy};
@@ -74,7 +76,9 @@ fn put_value<R: Direction>(
     season: &Season,
     policy: &Policy,
     text: &mut String,
-) -> Result<(), AllocError> {
+) -> Result<(), AllocError>
+    requires { IsPolicy season.now (written policy.now) }
+{
     let value = judge::<R>(alloc, season, policy);
     write!(text, " {value:?}")
 }
