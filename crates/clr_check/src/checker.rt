@@ -63,13 +63,15 @@ impl<'a> Checker<'a> {
     pub fn open(alloc: Global, season: &'a Season) -> Result<Checker<'a>, AllocError>
         ensures stands { IfOk result (λ checker. Stands season.now [] checker) }
     {
+        let key = LineBuffer::new(alloc)?;
+        let numbers = vec![in alloc; 0; MOST_NUMBERS]?;
         let live = Live::build(alloc, season.rules())?;
         let tables = Tables::new(alloc, season, &live)?;
         Ok(Checker {
             season,
             live,
-            key: LineBuffer::new(alloc)?,
-            numbers: vec![in alloc; 0; MOST_NUMBERS]?,
+            key,
+            numbers,
             tables,
             row: 0,
             place: Place::Head,

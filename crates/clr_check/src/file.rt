@@ -15,7 +15,7 @@ use crate::rest::Rest;
 use clr_cert::{Claims, No};
 use clr_io::{Line, Lines, Shelf};
 use clr_season::Season;
-use std::alloc::Global;
+use std::alloc::{AllocError, Global};
 use thiserror::Error;
 
 /// The most bytes of a certificate.
@@ -130,6 +130,17 @@ fn accepted_hold(season: &Season)
     accepted_claims_hold();
 }
 
+// A checker that was fed no line, and what takes a file apart into its lines.
+fn begun<'a>(alloc: Global, season: &'a Season) -> Result<(Checker<'a>, Lines), AllocError>
+    ensures stands { IfOk result (λ begun. Stands season.now [] begun.0) }
+    ensures start { IfOk result (λ begun. (begun.1.taken ≡ 0) × (begun.1.held ≡ []) × (begun.1.ended ≡ false)) }
+    ensures limits { IfOk result (λ begun. (begun.1.longest ≡ 65_536) × (begun.1.max ≡ 268_435_456)) }
+{
+    let lines = Lines::new(alloc, MOST_LINE, MOST_BYTES)?;
+    let checker = Checker::open(alloc, season)?;
+    Ok((checker, lines))
+}
+
 /// Reads the certificate of a name line by line, and checks it: what it claims, where it is accepted, and this holds then.
 ///
 /// It takes all its memory before it opens the file. After a fault of the certificate it still reads to the end, so a fault of
@@ -163,12 +174,8 @@ pub fn check_file<H: Shelf>(
     ensures files { H.files shelf.new ≡ H.files shelf.old }
     ensures later { H.faults shelf.old ≤ H.faults shelf.new }
 {
-    let mut lines = match Lines::new(alloc, MOST_LINE, MOST_BYTES) {
-        Ok(lines) => lines,
-        Err(_) => return Err(CheckError::Memory),
-    };
-    let mut checker = match Checker::open(alloc, season) {
-        Ok(checker) => checker,
+    let (mut checker, mut lines) = match begun(alloc, season) {
+        Ok(begun) => begun,
         Err(_) => return Err(CheckError::Memory),
     };
     let rest = feed_file(&mut checker, &mut lines, shelf, name)?;

@@ -96,6 +96,34 @@ fn joint_rows(alloc: Global, season: &Season, each: usize) -> Result<Rows, Alloc
     }
 }
 
+// The rows of the stores' low and high values, and of their values under the multipliers for so many live summaries.
+fn rows_of_stores(
+    alloc: Global,
+    season: &Season,
+    most: usize,
+) -> Result<(Rows, Rows, Rows), AllocError>
+    requires { most ≤ 2000 }
+    ensures { (room : ℕ) → IfOk result (λ rows. (AreRowsOf (2 * length season.now.stores) (λ row. 1 * stock_count season.now (row_store row)) room rows.0)
+        × (AreRowsOf (2 * length season.now.stores) (λ row. 1 * stock_count season.now (row_store row)) room rows.1)
+        × (AreRowsOf (2 * length season.now.stores) (λ row. most * stock_count season.now (row_store row)) room rows.2)) }
+{
+    let lows = store_rows(alloc, season, 1)?;
+    let highs = store_rows(alloc, season, 1)?;
+    let values = store_rows(alloc, season, most)?;
+    Ok((lows, highs, values))
+}
+
+// The rows of the low and of the top values of all stores together.
+fn rows_of_all(alloc: Global, season: &Season, most: usize) -> Result<(Rows, Rows), AllocError>
+    requires { most ≤ 2000 }
+    ensures { (room : ℕ) → IfOk result (λ rows. IsTrue (fits season.now) → (AreRowsOf 2 (λ row. most * stock_lists season.now.stores) room rows.0)
+        × (AreRowsOf 2 (λ row. most * stock_lists season.now.stores) room rows.1)) }
+{
+    let lows = joint_rows(alloc, season, most)?;
+    let tops = joint_rows(alloc, season, most)?;
+    Ok((lows, tops))
+}
+
 // The greatest number of live summaries after any number of weeks.
 fn most_live(season: &Season, live: &Live) -> u32
     requires { live.now ≡ live_pairs season.now.rules }
@@ -131,14 +159,18 @@ impl Tables {
     {
         let most = most_live(season, live) as usize;
         let mults = season.stores() as usize * season.weeks() as usize;
+        let path = first_path(alloc, season)?;
+        let mults = even_rows(alloc, mults, season.rungs() as usize)?;
+        let (joint_lows, joint_tops) = rows_of_all(alloc, season, most)?;
+        let (lows, highs, values) = rows_of_stores(alloc, season, most)?;
         Ok(Tables {
-            path: first_path(alloc, season)?,
-            mults: even_rows(alloc, mults, season.rungs() as usize)?,
-            lows: store_rows(alloc, season, 1)?,
-            highs: store_rows(alloc, season, 1)?,
-            values: store_rows(alloc, season, most)?,
-            joint_lows: joint_rows(alloc, season, most)?,
-            joint_tops: joint_rows(alloc, season, most)?,
+            path,
+            mults,
+            lows,
+            highs,
+            values,
+            joint_lows,
+            joint_tops,
             low: 0,
             high: 0,
             bound: 0,
