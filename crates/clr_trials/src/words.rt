@@ -82,14 +82,6 @@ plan,f,--cert==>Plan f 20 1 100000  1
 plan,a b/c=>Plan a b/c 20 1 100000 - 1
 plan,plan=>Plan plan 20 1 100000 - 1";
 
-#[test]
-fn words_that_ask(rt: HostRuntime) -> Result<(), Fail> {
-    for case in ASKED.lines() {
-        assert!(rt; is_answered(rt.alloc(), case)?, "{case}");
-    }
-    Ok(())
-}
-
 // Words that ask nothing, first of all none.
 const FAULTY: &str = "=>faulty
 plan=>faulty
@@ -138,8 +130,8 @@ plan,f,--help=>faulty
 -V=>faulty";
 
 #[test]
-fn words_that_ask_nothing(rt: HostRuntime) -> Result<(), Fail> {
-    for case in FAULTY.lines() {
+fn words_are_answered(rt: HostRuntime) -> Result<(), Fail> {
+    for case in ASKED.lines().chain(FAULTY.lines()) {
         assert!(rt; is_answered(rt.alloc(), case)?, "{case}");
     }
     Ok(())
