@@ -1,6 +1,7 @@
 // Runs of the objects in memory, with ample memory. The expected answers were counted by hand.
 //
 // In a case the numbers of the calls that are to fail stand one behind another, and `-` where none is.
+use crate::cases::{Kind, assert_cases};
 use crate::tables::{parts, sides};
 use clr_io::{
     Desk, Failed, MemoryDesk, MemoryShelf, MemorySink, ReadError, Shelf, Sink, read_whole,
@@ -93,7 +94,7 @@ fn shown(alloc: Global, found: Result<Vec<u8>, ReadError>) -> Result<String, All
     format!(in alloc; "{found:?}")
 }
 
-fn is_whole(alloc: Global, case: &str) -> Result<bool, AllocError> {
+pub(crate) fn is_whole(alloc: Global, case: &str) -> Result<bool, AllocError> {
     let (asked, want) = sides(case);
     let (name, rest) = parts(asked);
     let (piece, rest) = parts(rest);
@@ -107,10 +108,8 @@ fn is_whole(alloc: Global, case: &str) -> Result<bool, AllocError> {
 
 #[test]
 fn whole_files_are_read(rt: HostRuntime) -> Result<(), Fail> {
-    for case in WHOLE.lines().chain(BUFFERS.lines()) {
-        assert!(rt; is_whole(rt.alloc(), case)?, "{case}");
-    }
-    Ok(())
+    assert_cases(&rt, rt.alloc(), Kind::File, WHOLE)?;
+    assert_cases(&rt, rt.alloc(), Kind::File, BUFFERS)
 }
 
 // An answer as one sign: the number of bytes, or F for a fault.
@@ -166,7 +165,12 @@ const READS: &str = "1 three read read read read=>F0000
 const OPENED: &str =
     "- read three read buf none read buf read three four read three read buf=>012ab01cb010012ab";
 
-fn is_shelf(alloc: Global, case: &str, piece: usize, buf: &mut [u8]) -> Result<bool, AllocError> {
+pub(crate) fn is_shelf(
+    alloc: Global,
+    case: &str,
+    piece: usize,
+    buf: &mut [u8],
+) -> Result<bool, AllocError> {
     let (asked, want) = sides(case);
     let (fail, steps) = parts(asked);
     let mut shelf = shelf_of(alloc, (b"", 0), piece, fail)?;
@@ -175,11 +179,8 @@ fn is_shelf(alloc: Global, case: &str, piece: usize, buf: &mut [u8]) -> Result<b
 
 #[test]
 fn a_shelf_fails_at_the_listed_calls(rt: HostRuntime) -> Result<(), Fail> {
-    for case in READS.lines() {
-        assert!(rt; is_shelf(rt.alloc(), case, 1, &mut [0; 4])?, "{case}");
-    }
     assert!(rt; is_shelf(rt.alloc(), OPENED, 9, &mut [0; 2])?);
-    Ok(())
+    assert_cases(&rt, rt.alloc(), Kind::Shelf, READS)
 }
 
 // What the writes of these pieces answer, which stand with a comma between them.
@@ -200,7 +201,7 @@ const PIECES: &str = "1=>F01310 dxyzq
 6=>3011FF abcdx
 7=>3011F0 abcdx";
 
-fn is_sink(alloc: Global, case: &str) -> Result<bool, AllocError> {
+pub(crate) fn is_sink(alloc: Global, case: &str) -> Result<bool, AllocError> {
     let (fail, want) = sides(case);
     let (want, bytes) = parts(want);
     let mut sink = MemorySink::new(alloc, 5, 3, list_of(alloc, fail)?)?;
@@ -217,7 +218,7 @@ hello 0 -=>Failed
 hello 5 1=>Failed
 hello 5 3=>Failed hell";
 
-fn is_written(alloc: Global, case: &str) -> Result<bool, AllocError> {
+pub(crate) fn is_written(alloc: Global, case: &str) -> Result<bool, AllocError> {
     let (asked, want) = sides(case);
     let (text, rest) = parts(asked);
     let (room, fail) = parts(rest);
@@ -229,13 +230,8 @@ fn is_written(alloc: Global, case: &str) -> Result<bool, AllocError> {
 
 #[test]
 fn a_sink_fails_at_the_listed_calls(rt: HostRuntime) -> Result<(), Fail> {
-    for case in PIECES.lines() {
-        assert!(rt; is_sink(rt.alloc(), case)?, "{case}");
-    }
-    for case in TEXTS.lines() {
-        assert!(rt; is_written(rt.alloc(), case)?, "{case}");
-    }
-    Ok(())
+    assert_cases(&rt, rt.alloc(), Kind::Sink, PIECES)?;
+    assert_cases(&rt, rt.alloc(), Kind::Text, TEXTS)
 }
 
 // Writes the files of a desk behind a text, as "name=bytes;" each.
@@ -266,9 +262,9 @@ fn step_signs<D: Desk>(alloc: Global, desk: &mut D, steps: &str) -> Result<Vec<u
     Ok(signs)
 }
 
-// Steps on a desk, and for each call that fails what they answer, and the files that are kept. There is room for two files and four
-// bytes, three at a time.
-const STEPS: &str = "early,+one,abcd,+two,xyz,y,,+three";
+/// Steps on a desk, and for each call that fails what they answer, and the files that are kept. There is room for two files and four
+/// bytes, three at a time.
+pub(crate) const STEPS: &str = "early,+one,abcd,+two,xyz,y,,+three";
 
 const FILES: &str = "1=>F0301F0F one=abc;two=x;
 2=>5F403100 two=xyzy;three=;
@@ -280,8 +276,13 @@ const FILES: &str = "1=>F0301F0F one=abc;two=x;
 8=>50301F0F one=abc;two=x;
 9=>50301F0F one=abc;two=x;";
 
-// Whether steps on a desk answer as a case says, with room for so many files and bytes, and so many bytes at a time.
-fn is_desk(alloc: Global, case: &str, steps: &str, room: [usize; 3]) -> Result<bool, AllocError> {
+/// Whether steps on a desk answer as a case says, with room for so many files and bytes, and so many bytes at a time.
+pub(crate) fn is_desk(
+    alloc: Global,
+    case: &str,
+    steps: &str,
+    room: [usize; 3],
+) -> Result<bool, AllocError> {
     let (fail, want) = sides(case);
     let [files, bytes, piece] = room;
     let mut desk = MemoryDesk::new(alloc, files, bytes, piece.max(1), list_of(alloc, fail)?)?;
@@ -301,9 +302,6 @@ fn has_long_names(alloc: Global) -> Result<bool, AllocError> {
 
 #[test]
 fn a_desk_fails_at_the_listed_calls(rt: HostRuntime) -> Result<(), Fail> {
-    for case in FILES.lines() {
-        assert!(rt; is_desk(rt.alloc(), case, STEPS, [2, 4, 3])?, "{case}");
-    }
     assert!(rt; has_long_names(rt.alloc())?);
-    Ok(())
+    assert_cases(&rt, rt.alloc(), Kind::Desk, FILES)
 }

@@ -1,4 +1,5 @@
 // Cases of the forms of fields, of names and of whole files.
+use crate::cases::{Kind, assert_cases};
 use crate::tables::{file_of, number, numbers, refusal, sides};
 use clr_text::{FileError, Names, Table, cut, is_name, read_money, read_u64, rows};
 use std::alloc::{AllocError, Global};
@@ -13,7 +14,7 @@ a=>a
 |a^=>|a^
 \u{a0}a=>\u{a0}a";
 
-fn is_cut(alloc: Global, case: &str) -> Result<bool, AllocError> {
+pub(crate) fn is_cut(alloc: Global, case: &str) -> Result<bool, AllocError> {
     let (field, left) = sides(case);
     let field = file_of(alloc, field, "")?;
     let left = file_of(alloc, left, "")?;
@@ -22,10 +23,7 @@ fn is_cut(alloc: Global, case: &str) -> Result<bool, AllocError> {
 
 #[test]
 fn fields_are_cut(rt: HostRuntime) -> Result<(), Fail> {
-    for case in CUT.lines() {
-        assert!(rt; is_cut(rt.alloc(), case)?, "{case}");
-    }
-    Ok(())
+    assert_cases(&rt, rt.alloc(), Kind::Field, CUT)
 }
 
 // Fields, and the whole numbers that they read to.
@@ -73,7 +71,7 @@ const MONEY: &str = "0=>Some(0)
 -5.00=>None
 =>None";
 
-fn is_read(alloc: Global, case: &str, money: bool) -> Result<bool, AllocError> {
+pub(crate) fn is_read(alloc: Global, case: &str, money: bool) -> Result<bool, AllocError> {
     let (field, want) = sides(case);
     let field = file_of(alloc, field, "")?;
     let found = if money {
@@ -86,13 +84,8 @@ fn is_read(alloc: Global, case: &str, money: bool) -> Result<bool, AllocError> {
 
 #[test]
 fn whole_numbers_and_money(rt: HostRuntime) -> Result<(), Fail> {
-    for case in WHOLE.lines() {
-        assert!(rt; is_read(rt.alloc(), case, false)?, "{case}");
-    }
-    for case in MONEY.lines() {
-        assert!(rt; is_read(rt.alloc(), case, true)?, "{case}");
-    }
-    Ok(())
+    assert_cases(&rt, rt.alloc(), Kind::Number, WHOLE)?;
+    assert_cases(&rt, rt.alloc(), Kind::Money, MONEY)
 }
 
 // A file as a table of these columns.
@@ -152,7 +145,7 @@ fn tabled(alloc: Global, file: &[u8]) -> Result<Vec<u8>, AllocError> {
     }
 }
 
-fn is_tabled(alloc: Global, case: &str) -> Result<bool, AllocError> {
+pub(crate) fn is_tabled(alloc: Global, case: &str) -> Result<bool, AllocError> {
     let (file, want) = sides(case);
     let file = file_of(alloc, file, "")?;
     let found = tabled(alloc, &file)?;
@@ -161,10 +154,8 @@ fn is_tabled(alloc: Global, case: &str) -> Result<bool, AllocError> {
 
 #[test]
 fn tables(rt: HostRuntime) -> Result<(), Fail> {
-    for case in TABLES.lines().chain(REFUSED.lines()) {
-        assert!(rt; is_tabled(rt.alloc(), case)?, "{case}");
-    }
-    Ok(())
+    assert_cases(&rt, rt.alloc(), Kind::Table, TABLES)?;
+    assert_cases(&rt, rt.alloc(), Kind::Table, REFUSED)
 }
 
 // What stands in a column within its range.
@@ -184,7 +175,7 @@ const RANGES: &str = "1 7 7=>Some(7), 1 1 Range
 2 151 999=>1 2 Number, 1 2 Range
 3 0 9=>1 3 Number, 1 3 Money";
 
-fn is_in_range(alloc: Global, table: &Table, case: &str) -> Result<bool, AllocError> {
+fn is_within(alloc: Global, table: &Table, case: &str) -> Result<bool, AllocError> {
     if table.len() != 1 {
         return Ok(false);
     }
@@ -196,13 +187,16 @@ fn is_in_range(alloc: Global, table: &Table, case: &str) -> Result<bool, AllocEr
     Ok(format!(in alloc; "{number}, {money}")?.as_str() == want)
 }
 
+pub(crate) fn is_in_range(alloc: Global, case: &str) -> Result<bool, AllocError> {
+    match table_of(alloc, b"a,b,c\n7,1.50,x\n", &["a", "b", "c"]) {
+        Ok(table) => is_within(alloc, &table, case),
+        Err(_) => Ok(false),
+    }
+}
+
 #[test]
 fn fields_in_their_range(rt: HostRuntime) -> Result<(), Fail> {
-    let table = table_of(rt.alloc(), b"a,b,c\n7,1.50,x\n", &["a", "b", "c"])?;
-    for case in RANGES.lines() {
-        assert!(rt; is_in_range(rt.alloc(), &table, case)?, "{case}");
-    }
-    Ok(())
+    assert_cases(&rt, rt.alloc(), Kind::Range, RANGES)
 }
 
 // Files, their number of rows, and why a number other than 1 or 2 is refused.
@@ -220,7 +214,7 @@ fn count_of(alloc: Global, table: Table) -> Result<String, AllocError> {
     format!(in alloc; "{rows}, {answer}")
 }
 
-fn is_counted(alloc: Global, case: &str) -> Result<bool, AllocError> {
+pub(crate) fn is_counted(alloc: Global, case: &str) -> Result<bool, AllocError> {
     let (file, want) = sides(case);
     let file = file_of(alloc, file, "")?;
     match table_of(alloc, &file, &["a"]) {
@@ -231,10 +225,7 @@ fn is_counted(alloc: Global, case: &str) -> Result<bool, AllocError> {
 
 #[test]
 fn counts(rt: HostRuntime) -> Result<(), Fail> {
-    for case in COUNTS.lines() {
-        assert!(rt; is_counted(rt.alloc(), case)?, "{case}");
-    }
-    Ok(())
+    assert_cases(&rt, rt.alloc(), Kind::Count, COUNTS)
 }
 
 // Names, and whether a store may have them. The last two have 64 bytes and 65.
@@ -248,7 +239,7 @@ a\u{1f}=>false
 0123456789abcdef0123456789abcdef0123456789abcdef0123456789abcdef=>true
 0123456789abcdef0123456789abcdef0123456789abcdef0123456789abcdefx=>false";
 
-fn is_judged(alloc: Global, case: &str) -> Result<bool, AllocError> {
+pub(crate) fn is_judged(alloc: Global, case: &str) -> Result<bool, AllocError> {
     let (name, want) = sides(case);
     let name = file_of(alloc, name, "")?;
     Ok(is_name(&name) == (want == "true"))
@@ -256,11 +247,8 @@ fn is_judged(alloc: Global, case: &str) -> Result<bool, AllocError> {
 
 #[test]
 fn names_of_stores(rt: HostRuntime) -> Result<(), Fail> {
-    for case in NAMES.lines() {
-        assert!(rt; is_judged(rt.alloc(), case)?, "{case}");
-    }
     assert!(rt; !is_name(b"a\xff") && !is_name(b"\xc3"));
-    Ok(())
+    assert_cases(&rt, rt.alloc(), Kind::Name, NAMES)
 }
 
 // Names in their order, and the number of each that is new.

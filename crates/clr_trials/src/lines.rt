@@ -1,6 +1,7 @@
 // Files in memory read line by line. The expected answers were written by hand.
 ghost use Rattle.std.specs.Prelude.{◌≡◌, ◌≤◌, false};
 
+use crate::cases::{Kind, assert_cases};
 use crate::edges::{count, shelf_of};
 use crate::tables::{file_of, parts, sides};
 use clr_io::{Failed, Line, Lines, Shelf};
@@ -92,17 +93,18 @@ fn is_answered(alloc: Global, piece: &str, fail: &str, case: &str) -> Result<boo
     Ok(found.as_slice() == file_of(alloc, want, &long)?.as_slice())
 }
 
-#[test]
-fn lines_do_not_depend_on_the_reads(rt: HostRuntime) -> Result<(), Fail> {
-    for case in TEXTS.lines() {
-        for piece in ["1", "16", "1000", "65536"] {
-            assert!(rt;
-                is_answered(rt.alloc(), piece, "-", case)?,
-                "{piece}: {case}"
-            );
+pub(crate) fn is_read_by_each(alloc: Global, case: &str) -> Result<bool, AllocError> {
+    for piece in ["1", "16", "1000", "65536"] {
+        if !is_answered(alloc, piece, "-", case)? {
+            return Ok(false);
         }
     }
-    Ok(())
+    Ok(true)
+}
+
+#[test]
+fn lines_do_not_depend_on_the_reads(rt: HostRuntime) -> Result<(), Fail> {
+    assert_cases(&rt, rt.alloc(), Kind::Lines, TEXTS)
 }
 
 // How many bytes are given at a time, the call that fails, and a case as above. The calls on the shelf are the opening, the reads, and
@@ -115,12 +117,13 @@ const FAULTS: &str = "1 2 0 3 9 a|b=>F
 16 3 0 3 9 a|b=>WaF
 16 4 0 3 9 a|b=>WaRb";
 
+pub(crate) fn is_fault(alloc: Global, case: &str) -> Result<bool, AllocError> {
+    let (piece, rest) = parts(case);
+    let (call, case) = parts(rest);
+    is_answered(alloc, piece, call, case)
+}
+
 #[test]
 fn a_fault_ends_the_lines(rt: HostRuntime) -> Result<(), Fail> {
-    for line in FAULTS.lines() {
-        let (piece, rest) = parts(line);
-        let (call, case) = parts(rest);
-        assert!(rt; is_answered(rt.alloc(), piece, call, case)?, "{line}");
-    }
-    Ok(())
+    assert_cases(&rt, rt.alloc(), Kind::Fault, FAULTS)
 }

@@ -1,6 +1,7 @@
 // Steps of multipliers. The expected entries were worked out by hand.
 ghost use Rattle.std.specs.Prelude.{◌≡◌, ◌≤◌, IfOk};
 
+use crate::cases::{Kind, assert_cases};
 use crate::tables::{numbers, sides};
 use clr_mult::{Mult, Usage};
 use std::alloc::{AllocError, Global};
@@ -65,7 +66,7 @@ const STEPS: &str = "2 3 1000000 0 0=>([-1500000, 1500000, 0], [-3000000, 300000
 3 10 700000 300001 0=>([-3666660, 333330, 3333330], [-7333320, 666660, 6666660])
 3 100000000 0 0 0=>([0, 0, 0], [0, 0, 0])";
 
-fn is_stepped(alloc: Global, case: &str) -> Result<bool, AllocError> {
+pub(crate) fn is_stepped(alloc: Global, case: &str) -> Result<bool, AllocError> {
     let (text, want) = sides(case);
     let [stores, q, first, second, third, _, _, _] = numbers(text);
     let q = u64::from(q.min(100_000_000));
@@ -75,8 +76,5 @@ fn is_stepped(alloc: Global, case: &str) -> Result<bool, AllocError> {
 
 #[test]
 fn steps_go_against_the_direction(rt: HostRuntime) -> Result<(), Fail> {
-    for case in STEPS.lines() {
-        assert!(rt; is_stepped(rt.alloc(), case)?, "{case}");
-    }
-    Ok(())
+    assert_cases(&rt, rt.alloc(), Kind::Step, STEPS)
 }

@@ -1,6 +1,7 @@
 // Numbers rounded and printed.
 ghost use Rattle.std.specs.Prelude.{pos, ◌≤ℤ◌};
 
+use crate::cases::{Kind, assert_cases};
 use crate::tables::sides;
 use clr_num::{Direction, Down, Up, direction_laws, print_cents, print_money, rounding_laws};
 use std::alloc::{AllocError, Global};
@@ -66,8 +67,8 @@ const CENTS: &str = "0=>0.00
 1005=>10.05
 18446744073709551615=>184467440737095516.15";
 
-// Whether an amount is printed as its case says, behind what stands there.
-fn is_printed(alloc: Global, case: &str, money: bool) -> Result<bool, AllocError> {
+/// Whether an amount is printed as its case says, behind what stands there.
+pub(crate) fn is_printed(alloc: Global, case: &str, money: bool) -> Result<bool, AllocError> {
     let (amount, want) = sides(case);
     let mut out = Vec::from_slice(alloc, b"price ")?;
     if money {
@@ -80,11 +81,6 @@ fn is_printed(alloc: Global, case: &str, money: bool) -> Result<bool, AllocError
 
 #[test]
 fn prints_money_and_cents(rt: HostRuntime) -> Result<(), Fail> {
-    for case in MONEY.lines() {
-        assert!(rt; is_printed(rt.alloc(), case, true)?, "{case}");
-    }
-    for case in CENTS.lines() {
-        assert!(rt; is_printed(rt.alloc(), case, false)?, "{case}");
-    }
-    Ok(())
+    assert_cases(&rt, rt.alloc(), Kind::Units, MONEY)?;
+    assert_cases(&rt, rt.alloc(), Kind::Cents, CENTS)
 }

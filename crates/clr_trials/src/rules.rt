@@ -1,4 +1,5 @@
 // Seasons over one ladder and without a calendar, with what their rules say counted by hand.
+use crate::cases::{Kind, assert_cases};
 use crate::tables::{numbers, sides};
 use clr_rules::{Limits, Live, Rule, Rules, Summary, first_path, free_calendar};
 use std::alloc::{AllocError, Global};
@@ -99,7 +100,7 @@ fn week_of(alloc: Global, case: [u32; 8]) -> Result<Option<Result<Numbers, Rule>
     Ok(week(&rules, done, Summary { last, count, age }, rung))
 }
 
-fn is_week(alloc: Global, case: &str) -> Result<bool, AllocError> {
+pub(crate) fn is_week(alloc: Global, case: &str) -> Result<bool, AllocError> {
     let (text, want) = sides(case);
     match week_of(alloc, numbers(text))? {
         Some(got) => Ok(format!(in alloc; "{got:?}")?.as_str() == want),
@@ -109,10 +110,7 @@ fn is_week(alloc: Global, case: &str) -> Result<bool, AllocError> {
 
 #[test]
 fn weeks_by_their_rules(rt: HostRuntime) -> Result<(), Fail> {
-    for case in WEEKS.lines() {
-        assert!(rt; is_week(rt.alloc(), case)?, "{case}");
-    }
-    Ok(())
+    assert_cases(&rt, rt.alloc(), Kind::Week, WEEKS)
 }
 
 // The place of a live summary and the one after it, by each call that tells of it.
@@ -145,30 +143,31 @@ const LIVE: &str = "0 1 0 2=>(Some(0), None)
 2 2 1 2=>(Some(2), None)
 3 1 0 2=>(None, None)";
 
-fn is_live(alloc: Global, case: &str) -> Result<bool, AllocError> {
+fn two_weeks(alloc: Global) -> Result<Live, AllocError> {
+    let rules = rules_of(alloc, TWO_WEEKS)?;
+    Live::build(alloc, &rules)
+}
+
+pub(crate) fn is_live(alloc: Global, case: &str) -> Result<bool, AllocError> {
     let (text, want) = sides(case);
     let [done, last, count, age, _, _, _, _] = numbers(text);
-    let live = Live::build(alloc, &rules_of(alloc, TWO_WEEKS)?)?;
+    let live = two_weeks(alloc)?;
     let got = place_and_next(&live, done, Summary { last, count, age });
     Ok(format!(in alloc; "{got:?}")?.as_str() == want)
 }
 
 // The summary before the first week, and of two weeks the first one and how many there are.
 fn ends(alloc: Global) -> Result<String, AllocError> {
-    let rules = rules_of(alloc, TWO_WEEKS)?;
-    let live = Live::build(alloc, &rules)?;
-    let start = numbers_of(rules.start());
+    let start = numbers_of(rules_of(alloc, TWO_WEEKS)?.start());
+    let live = two_weeks(alloc)?;
     let first = live.first(2).map(numbers_of);
     format!(in alloc; "{start:?} {first:?} {}", live.count(2))
 }
 
 #[test]
 fn live_summaries_in_their_order(rt: HostRuntime) -> Result<(), Fail> {
-    for case in LIVE.lines() {
-        assert!(rt; is_live(rt.alloc(), case)?, "{case}");
-    }
     assert!(rt; ends(rt.alloc())?.as_str() == "(1, 0, 2) Some((1, 0, 2)) 3");
-    Ok(())
+    assert_cases(&rt, rt.alloc(), Kind::Live, LIVE)
 }
 
 // The first path, or an empty one where there is none.
@@ -186,7 +185,7 @@ const PATHS: &str = "1 0=>[1]
 4 12=>[1, 1, 1, 1]
 2 1=>[1, 1]";
 
-fn is_first(alloc: Global, case: &str) -> Result<bool, AllocError> {
+pub(crate) fn is_first(alloc: Global, case: &str) -> Result<bool, AllocError> {
     let (text, want) = sides(case);
     let [weeks, markdowns, _, _, _, _, _, _] = numbers(text);
     let limits = Limits {
@@ -201,8 +200,5 @@ fn is_first(alloc: Global, case: &str) -> Result<bool, AllocError> {
 
 #[test]
 fn first_paths(rt: HostRuntime) -> Result<(), Fail> {
-    for case in PATHS.lines() {
-        assert!(rt; is_first(rt.alloc(), case)?, "{case}");
-    }
-    Ok(())
+    assert_cases(&rt, rt.alloc(), Kind::Path, PATHS)
 }

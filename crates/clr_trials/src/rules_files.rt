@@ -1,4 +1,5 @@
 // Cases of rules.json and calendar.csv.
+use crate::cases::{Kind, assert_cases};
 use crate::tables::{file_of, refusal, sides};
 use clr_rules::{Calendar, read_calendar, read_limits};
 use std::alloc::{AllocError, Global};
@@ -92,7 +93,7 @@ fn limits_of(alloc: Global, file: &[u8]) -> Result<String, AllocError> {
     }
 }
 
-fn are_limits(alloc: Global, case: &str) -> Result<bool, AllocError> {
+pub(crate) fn are_limits(alloc: Global, case: &str) -> Result<bool, AllocError> {
     let (file, want) = sides(case);
     let file = file_of(alloc, file, WEEKS_AND_BASE)?;
     Ok(limits_of(alloc, &file)?.as_str() == want)
@@ -100,10 +101,8 @@ fn are_limits(alloc: Global, case: &str) -> Result<bool, AllocError> {
 
 #[test]
 fn limits(rt: HostRuntime) -> Result<(), Fail> {
-    for case in REFUSED.lines().chain(LIMITS.lines()) {
-        assert!(rt; are_limits(rt.alloc(), case)?, "{case}");
-    }
-    Ok(())
+    assert_cases(&rt, rt.alloc(), Kind::Limits, REFUSED)?;
+    assert_cases(&rt, rt.alloc(), Kind::Limits, LIMITS)
 }
 
 // How many arrays stand one in another, and how an object is refused whose weeks they are.
@@ -112,7 +111,7 @@ const NESTED: &str = "1=>0 2 Number
 127=>0 0 Json
 128=>0 0 Json";
 
-fn are_nested(alloc: Global, case: &str) -> Result<bool, AllocError> {
+pub(crate) fn are_nested(alloc: Global, case: &str) -> Result<bool, AllocError> {
     let (arrays, want) = sides(case);
     let arrays = arrays.parse::<usize>().unwrap_or(0);
     let mut text = "[".repeat(alloc, arrays)?;
@@ -123,10 +122,7 @@ fn are_nested(alloc: Global, case: &str) -> Result<bool, AllocError> {
 
 #[test]
 fn nested_arrays(rt: HostRuntime) -> Result<(), Fail> {
-    for case in NESTED.lines() {
-        assert!(rt; are_nested(rt.alloc(), case)?, "{case}");
-    }
-    Ok(())
+    assert_cases(&rt, rt.alloc(), Kind::Nested, NESTED)
 }
 
 // What stands for `$` in a calendar file.
@@ -197,20 +193,15 @@ fn calendar_of(alloc: Global, file: &str, weeks: u32) -> Result<String, AllocErr
     }
 }
 
-fn is_calendar(alloc: Global, case: &str, weeks: u32) -> Result<bool, AllocError> {
+pub(crate) fn is_calendar(alloc: Global, case: &str, weeks: u32) -> Result<bool, AllocError> {
     let (file, want) = sides(case);
     Ok(calendar_of(alloc, file, weeks)?.as_str() == want)
 }
 
 #[test]
 fn calendars(rt: HostRuntime) -> Result<(), Fail> {
-    for case in CALENDARS.lines() {
-        assert!(rt; is_calendar(rt.alloc(), case, 4)?, "{case}");
-    }
-    for case in READ.lines() {
-        assert!(rt; is_calendar(rt.alloc(), case, 3)?, "{case}");
-    }
-    Ok(())
+    assert_cases(&rt, rt.alloc(), Kind::FourWeeks, CALENDARS)?;
+    assert_cases(&rt, rt.alloc(), Kind::ThreeWeeks, READ)
 }
 
 // Whether a calendar of 52 weeks is read whose last one alone has a row.

@@ -1,4 +1,5 @@
 // Cases of ladder.csv and stock.csv.
+use crate::cases::{Kind, assert_cases};
 use crate::tables::{file_of, refusal, sides};
 use clr_stock::{Stock, read_ladder, read_stock};
 use clr_text::FileError;
@@ -43,7 +44,7 @@ fn ladder_of(alloc: Global, file: &[u8]) -> Result<String, AllocError> {
     }
 }
 
-fn is_ladder(alloc: Global, case: &str) -> Result<bool, AllocError> {
+pub(crate) fn is_ladder(alloc: Global, case: &str) -> Result<bool, AllocError> {
     let (file, want) = sides(case);
     let file = file_of(alloc, file, LADDER)?;
     Ok(ladder_of(alloc, &file)?.as_str() == want)
@@ -51,10 +52,7 @@ fn is_ladder(alloc: Global, case: &str) -> Result<bool, AllocError> {
 
 #[test]
 fn ladders(rt: HostRuntime) -> Result<(), Fail> {
-    for case in LADDERS.lines() {
-        assert!(rt; is_ladder(rt.alloc(), case)?, "{case}");
-    }
-    Ok(())
+    assert_cases(&rt, rt.alloc(), Kind::Ladder, LADDERS)
 }
 
 #[test]
@@ -134,7 +132,7 @@ fn shown(alloc: Global, file: &[u8], relabel: bool) -> Result<String, AllocError
     }
 }
 
-fn is_shown(alloc: Global, case: &str, relabel: bool) -> Result<bool, AllocError> {
+pub(crate) fn is_shown(alloc: Global, case: &str, relabel: bool) -> Result<bool, AllocError> {
     let (file, want) = sides(case);
     let file = file_of(alloc, file, if relabel { RELABELLED } else { PLAIN })?;
     Ok(shown(alloc, &file, relabel)?.as_str() == want)
@@ -142,13 +140,8 @@ fn is_shown(alloc: Global, case: &str, relabel: bool) -> Result<bool, AllocError
 
 #[test]
 fn stocks_without_and_with_relabelling(rt: HostRuntime) -> Result<(), Fail> {
-    for case in STOCKS.lines() {
-        assert!(rt; is_shown(rt.alloc(), case, false)?, "{case}");
-    }
-    for case in RELABELS.lines() {
-        assert!(rt; is_shown(rt.alloc(), case, true)?, "{case}");
-    }
-    Ok(())
+    assert_cases(&rt, rt.alloc(), Kind::Stock, STOCKS)?;
+    assert_cases(&rt, rt.alloc(), Kind::Relabelled, RELABELS)
 }
 
 // A stock file of so many stores.
