@@ -1,5 +1,6 @@
 // Cases of the forms of fields, of names and of whole files.
-use crate::tables::{file_of, number, refusal, sides};
+use crate::cases::{Kind, assert_cases};
+use crate::tables::{file_of, number, numbers, refusal, sides};
 use clr_text::{FileError, Names, Table, cut, is_name, read_money, read_u64, rows};
 use std::alloc::{AllocError, Global};
 use std::test::Fail;
@@ -13,7 +14,7 @@ a=>a
 |a^=>|a^
 \u{a0}a=>\u{a0}a";
 
-fn is_cut(alloc: Global, case: &str) -> Result<bool, AllocError> {
+pub(crate) fn is_cut(alloc: Global, case: &str) -> Result<bool, AllocError> {
     let (field, left) = sides(case);
     let field = file_of(alloc, field, "")?;
     let left = file_of(alloc, left, "")?;
@@ -22,10 +23,7 @@ fn is_cut(alloc: Global, case: &str) -> Result<bool, AllocError> {
 
 #[test]
 fn fields_are_cut(rt: HostRuntime) -> Result<(), Fail> {
-    for case in CUT.lines() {
-        assert!(rt; is_cut(rt.alloc(), case)?, "{case}");
-    }
-    Ok(())
+    assert_cases(&rt, rt.alloc(), Kind::Field, CUT)
 }
 
 // Fields, and the whole numbers that they read to.
@@ -73,7 +71,7 @@ const MONEY: &str = "0=>Some(0)
 -5.00=>None
 =>None";
 
-fn is_read(alloc: Global, case: &str, money: bool) -> Result<bool, AllocError> {
+pub(crate) fn is_read(alloc: Global, case: &str, money: bool) -> Result<bool, AllocError> {
     let (field, want) = sides(case);
     let field = file_of(alloc, field, "")?;
     let found = if money {
@@ -85,19 +83,9 @@ fn is_read(alloc: Global, case: &str, money: bool) -> Result<bool, AllocError> {
 }
 
 #[test]
-fn whole_numbers(rt: HostRuntime) -> Result<(), Fail> {
-    for case in WHOLE.lines() {
-        assert!(rt; is_read(rt.alloc(), case, false)?, "{case}");
-    }
-    Ok(())
-}
-
-#[test]
-fn money(rt: HostRuntime) -> Result<(), Fail> {
-    for case in MONEY.lines() {
-        assert!(rt; is_read(rt.alloc(), case, true)?, "{case}");
-    }
-    Ok(())
+fn whole_numbers_and_money(rt: HostRuntime) -> Result<(), Fail> {
+    assert_cases(&rt, rt.alloc(), Kind::Number, WHOLE)?;
+    assert_cases(&rt, rt.alloc(), Kind::Money, MONEY)
 }
 
 // A file as a table of these columns.
@@ -149,22 +137,25 @@ a,b|1|=>1 0 Fields
 a,b|1,2||1,2,3|1|=>2 0 Fields
 a,b|1,2| |=>2 0 Fields";
 
-fn is_tabled(alloc: Global, case: &str) -> Result<bool, AllocError> {
+// What is shown of a file with the columns a and b, or its refusal.
+fn tabled(alloc: Global, file: &[u8]) -> Result<Vec<u8>, AllocError> {
+    match table_of(alloc, file, &["a", "b"]) {
+        Ok(table) => shown(alloc, &table),
+        Err(error) => Ok(refusal(alloc, error)?.into_bytes()),
+    }
+}
+
+pub(crate) fn is_tabled(alloc: Global, case: &str) -> Result<bool, AllocError> {
     let (file, want) = sides(case);
     let file = file_of(alloc, file, "")?;
-    let want = file_of(alloc, want, "")?;
-    match table_of(alloc, &file, &["a", "b"]) {
-        Ok(table) => Ok(shown(alloc, &table)?.as_slice() == want.as_slice()),
-        Err(error) => Ok(refusal(alloc, error)?.as_bytes() == want.as_slice()),
-    }
+    let found = tabled(alloc, &file)?;
+    Ok(found.as_slice() == file_of(alloc, want, "")?.as_slice())
 }
 
 #[test]
 fn tables(rt: HostRuntime) -> Result<(), Fail> {
-    for case in TABLES.lines().chain(REFUSED.lines()) {
-        assert!(rt; is_tabled(rt.alloc(), case)?, "{case}");
-    }
-    Ok(())
+    assert_cases(&rt, rt.alloc(), Kind::Table, TABLES)?;
+    assert_cases(&rt, rt.alloc(), Kind::Table, REFUSED)
 }
 
 // What stands in a column within its range.
@@ -176,29 +167,36 @@ fn answer(alloc: Global, found: Result<u64, FileError>) -> Result<String, AllocE
 }
 
 // A column, a range, and what the number and the money of that column are in it.
-const RANGES: [(u32, u64, u64, &str, &str); 7] = [
-    (1, 7, 7, "Some(7)", "1 1 Range"),
-    (1, 8, 700, "1 1 Range", "Some(700)"),
-    (1, 0, 6, "1 1 Range", "1 1 Range"),
-    (2, 150, 150, "1 2 Number", "Some(150)"),
-    (2, 0, 149, "1 2 Number", "1 2 Range"),
-    (2, 151, 999, "1 2 Number", "1 2 Range"),
-    (3, 0, 9, "1 3 Number", "1 3 Money"),
-];
+const RANGES: &str = "1 7 7=>Some(7), 1 1 Range
+1 8 700=>1 1 Range, Some(700)
+1 0 6=>1 1 Range, 1 1 Range
+2 150 150=>1 2 Number, Some(150)
+2 0 149=>1 2 Number, 1 2 Range
+2 151 999=>1 2 Number, 1 2 Range
+3 0 9=>1 3 Number, 1 3 Money";
+
+fn is_within(alloc: Global, table: &Table, case: &str) -> Result<bool, AllocError> {
+    if table.len() != 1 {
+        return Ok(false);
+    }
+    let (asked, want) = sides(case);
+    let [column, low, high, _, _, _, _, _] = numbers(asked);
+    let (column, low, high) = (column.max(1), u64::from(low), u64::from(high));
+    let number = answer(alloc, table.number(1, column, low, high))?;
+    let money = answer(alloc, table.money(1, column, low, high))?;
+    Ok(format!(in alloc; "{number}, {money}")?.as_str() == want)
+}
+
+pub(crate) fn is_in_range(alloc: Global, case: &str) -> Result<bool, AllocError> {
+    match table_of(alloc, b"a,b,c\n7,1.50,x\n", &["a", "b", "c"]) {
+        Ok(table) => is_within(alloc, &table, case),
+        Err(_) => Ok(false),
+    }
+}
 
 #[test]
 fn fields_in_their_range(rt: HostRuntime) -> Result<(), Fail> {
-    let alloc = rt.alloc();
-    let table = table_of(alloc, b"a,b,c\n7,1.50,x\n", &["a", "b", "c"])?;
-    assert_eq!(rt; table.len(), 1);
-    for (column, low, high, number, money) in RANGES {
-        let column = column.max(1);
-        let found = answer(alloc, table.number(1, column, low, high))?;
-        assert!(rt; found.as_str() == number, "{column}: {low}..{high}");
-        let found = answer(alloc, table.money(1, column, low, high))?;
-        assert!(rt; found.as_str() == money, "{column}: {low}..{high}");
-    }
-    Ok(())
+    assert_cases(&rt, rt.alloc(), Kind::Range, RANGES)
 }
 
 // Files, their number of rows, and why a number other than 1 or 2 is refused.
@@ -216,15 +214,18 @@ fn count_of(alloc: Global, table: Table) -> Result<String, AllocError> {
     format!(in alloc; "{rows}, {answer}")
 }
 
+pub(crate) fn is_counted(alloc: Global, case: &str) -> Result<bool, AllocError> {
+    let (file, want) = sides(case);
+    let file = file_of(alloc, file, "")?;
+    match table_of(alloc, &file, &["a"]) {
+        Ok(table) => Ok(count_of(alloc, table)?.as_str() == want),
+        Err(_) => Ok(false),
+    }
+}
+
 #[test]
 fn counts(rt: HostRuntime) -> Result<(), Fail> {
-    let alloc = rt.alloc();
-    for case in COUNTS.lines() {
-        let (file, want) = sides(case);
-        let table = table_of(alloc, &file_of(alloc, file, "")?, &["a"])?;
-        assert!(rt; count_of(alloc, table)?.as_str() == want, "{case}");
-    }
-    Ok(())
+    assert_cases(&rt, rt.alloc(), Kind::Count, COUNTS)
 }
 
 // Names, and whether a store may have them. The last two have 64 bytes and 65.
@@ -238,7 +239,7 @@ a\u{1f}=>false
 0123456789abcdef0123456789abcdef0123456789abcdef0123456789abcdef=>true
 0123456789abcdef0123456789abcdef0123456789abcdef0123456789abcdefx=>false";
 
-fn is_judged(alloc: Global, case: &str) -> Result<bool, AllocError> {
+pub(crate) fn is_judged(alloc: Global, case: &str) -> Result<bool, AllocError> {
     let (name, want) = sides(case);
     let name = file_of(alloc, name, "")?;
     Ok(is_name(&name) == (want == "true"))
@@ -246,11 +247,8 @@ fn is_judged(alloc: Global, case: &str) -> Result<bool, AllocError> {
 
 #[test]
 fn names_of_stores(rt: HostRuntime) -> Result<(), Fail> {
-    for case in NAMES.lines() {
-        assert!(rt; is_judged(rt.alloc(), case)?, "{case}");
-    }
     assert!(rt; !is_name(b"a\xff") && !is_name(b"\xc3"));
-    Ok(())
+    assert_cases(&rt, rt.alloc(), Kind::Name, NAMES)
 }
 
 // Names in their order, and the number of each that is new.
@@ -260,22 +258,39 @@ b=>None
 B=>Some(3)
 a=>None";
 
-#[test]
-fn names_in_order(rt: HostRuntime) -> Result<(), Fail> {
-    let alloc = rt.alloc();
+fn is_pushed(alloc: Global, names: &mut Names, case: &str) -> Result<bool, AllocError> {
+    if names.len() >= 64 {
+        return Ok(false);
+    }
+    let (name, want) = sides(case);
+    let found = names.push(name.as_bytes())?.map(u64::from);
+    Ok(number(alloc, found)?.as_str() == want)
+}
+
+// How many names there are, the second, and the numbers of some.
+fn found(alloc: Global, names: &Names) -> Result<String, AllocError> {
+    let second = if names.len() < 2 { "" } else { names.get(2) };
+    format!(in alloc;
+        "{} {second} {:?} {:?} {:?}",
+        names.len(),
+        names.find(b"B"),
+        names.find(b"c"),
+        names.find(b"\xff")
+    )
+}
+
+fn are_in_order(alloc: Global) -> Result<bool, AllocError> {
     let mut names = Names::new(alloc);
     for case in PUSHED.lines() {
-        let (name, want) = sides(case);
-        assert!(rt; names.len() < 64);
-        let found = names.push(name.as_bytes())?.map(u64::from);
-        assert!(rt; number(alloc, found)?.as_str() == want, "{case}");
+        if !is_pushed(alloc, &mut names, case)? {
+            return Ok(false);
+        }
     }
-    assert!(rt;
-        names.len() == 3
-            && names.get(2) == "a"
-            && names.find(b"B") == Some(3)
-            && names.find(b"c").is_none()
-            && names.find(b"\xff").is_none()
-    );
+    Ok(found(alloc, &names)?.as_str() == "3 a Some(3) None None")
+}
+
+#[test]
+fn names_in_order(rt: HostRuntime) -> Result<(), Fail> {
+    assert!(rt; are_in_order(rt.alloc())?);
     Ok(())
 }

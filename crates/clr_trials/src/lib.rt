@@ -6,6 +6,8 @@
 #[cfg(test)]
 mod averages;
 #[cfg(test)]
+mod cases;
+#[cfg(test)]
 mod edges;
 #[cfg(test)]
 mod fields;

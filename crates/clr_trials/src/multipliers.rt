@@ -1,6 +1,8 @@
 // Steps of multipliers. The expected entries were worked out by hand.
 ghost use Rattle.std.specs.Prelude.{◌≡◌, ◌≤◌, IfOk};
 
+use crate::cases::{Kind, assert_cases};
+use crate::tables::{numbers, sides};
 use clr_mult::{Mult, Usage};
 use std::alloc::{AllocError, Global};
 use std::test::Fail;
@@ -23,7 +25,21 @@ fn usage_of(alloc: Global, stores: u32, masses: [u32; 3]) -> Result<Usage, Alloc
     Ok(usage)
 }
 
-// The entries of that week and rung after one step from zero, and after two. A store that isn't there has 0.
+// The entries of that week and rung. A store that isn't there has 0.
+fn entries(table: &Mult, stores: u32) -> [i64; 3]
+    requires few { stores ≤ 3 }
+    requires stores { stores ≤ table.now.stores }
+    requires weeks { 2 ≤ table.now.weeks }
+    requires rungs { 3 ≤ table.now.rungs }
+{
+    let mut found = [0; 3];
+    for store in 1..stores + 1 {
+        found[store as usize - 1] = table.at(store, 2, 3);
+    }
+    found
+}
+
+// Those entries after one step from zero, and after two.
 fn entries_after(
     alloc: Global,
     stores: u32,
@@ -39,40 +55,26 @@ fn entries_after(
     table.step(q, &usage)?;
     let first = table.copy()?;
     table.step(q, &usage)?;
-    let mut once = [0; 3];
-    let mut twice = [0; 3];
-    for store in 1..stores + 1 {
-        once[store as usize - 1] = first.at(store, 2, 3);
-        twice[store as usize - 1] = table.at(store, 2, 3);
-    }
-    Ok((once, twice))
+    Ok((entries(&first, stores), entries(&table, stores)))
 }
 
 // Of two stores one uses the rung always and one never: the mean is half a million. Of three stores the total
 // is 1,000,001, so the mean is 333,333 and 2 are left over: the directions are 366,666, -33,333 and -333,333.
+//
+// The stores, the factor and the usage of three stores, and the entries after one step and after two.
+const STEPS: &str = "2 3 1000000 0 0=>([-1500000, 1500000, 0], [-3000000, 3000000, 0])
+3 10 700000 300001 0=>([-3666660, 333330, 3333330], [-7333320, 666660, 6666660])
+3 100000000 0 0 0=>([0, 0, 0], [0, 0, 0])";
+
+pub(crate) fn is_stepped(alloc: Global, case: &str) -> Result<bool, AllocError> {
+    let (text, want) = sides(case);
+    let [stores, q, first, second, third, _, _, _] = numbers(text);
+    let q = u64::from(q.min(100_000_000));
+    let found = entries_after(alloc, stores.clamp(1, 3), [first, second, third], q)?;
+    Ok(format!(in alloc; "{found:?}")?.as_str() == want)
+}
+
 #[test]
 fn steps_go_against_the_direction(rt: HostRuntime) -> Result<(), Fail> {
-    let cases: [(u32, [u32; 3], u64, [i64; 3], [i64; 3]); 3] = [
-        (
-            2,
-            [1_000_000, 0, 0],
-            3,
-            [-1_500_000, 1_500_000, 0],
-            [-3_000_000, 3_000_000, 0],
-        ),
-        (
-            3,
-            [700_000, 300_001, 0],
-            10,
-            [-3_666_660, 333_330, 3_333_330],
-            [-7_333_320, 666_660, 6_666_660],
-        ),
-        (3, [0, 0, 0], 100_000_000, [0, 0, 0], [0, 0, 0]),
-    ];
-    for (stores, masses, q, once, twice) in cases {
-        let found = entries_after(rt.alloc(), stores.clamp(1, 3), masses, q.min(100_000_000))?;
-        assert_eq!(rt; found.0, once, "one step of {stores} stores");
-        assert_eq!(rt; found.1, twice, "two steps of {stores} stores");
-    }
-    Ok(())
+    assert_cases(&rt, rt.alloc(), Kind::Step, STEPS)
 }

@@ -1,7 +1,10 @@
 // Numbers rounded and printed.
 ghost use Rattle.std.specs.Prelude.{pos, ◌≤ℤ◌};
 
+use crate::cases::{Kind, assert_cases};
+use crate::tables::sides;
 use clr_num::{Direction, Down, Up, direction_laws, print_cents, print_money, rounding_laws};
+use std::alloc::{AllocError, Global};
 use std::test::Fail;
 
 #[test]
@@ -46,47 +49,38 @@ fn rounds_through_the_bound(rt: HostRuntime) {
     assert_eq!(rt; [quotient::<Up>(7, 2), quotient::<Down>(7, 2)], [4, 3]);
 }
 
-#[test]
-fn prints_money(rt: HostRuntime) -> Result<(), Fail> {
-    let cases = [
-        (0, "0.00000000"),
-        (-1, "-0.00000001"),
-        (99, "0.00000099"),
-        (100, "0.00000100"),
-        (-100_000_000, "-1.00000000"),
-        (123_456_789_012, "1234.56789012"),
-        (i128::MAX, "1701411834604692317316873037158.84105727"),
-        (i128::MIN, "-1701411834604692317316873037158.84105728"),
-    ];
-    for (units, text) in cases {
-        let mut out = Vec::new(rt.alloc());
-        print_money(units, &mut out)?;
-        assert_eq!(rt; out.as_slice(), text.as_bytes(), "{text}");
+// Units, and how they are printed.
+const MONEY: &str = "0=>0.00000000
+-1=>-0.00000001
+99=>0.00000099
+100=>0.00000100
+-100000000=>-1.00000000
+123456789012=>1234.56789012
+170141183460469231731687303715884105727=>1701411834604692317316873037158.84105727
+-170141183460469231731687303715884105728=>-1701411834604692317316873037158.84105728";
+
+// Cents, and how they are printed.
+const CENTS: &str = "0=>0.00
+5=>0.05
+99=>0.99
+100=>1.00
+1005=>10.05
+18446744073709551615=>184467440737095516.15";
+
+/// Whether an amount is printed as its case says, behind what stands there.
+pub(crate) fn is_printed(alloc: Global, case: &str, money: bool) -> Result<bool, AllocError> {
+    let (amount, want) = sides(case);
+    let mut out = Vec::from_slice(alloc, b"price ")?;
+    if money {
+        print_money(amount.parse::<i128>().unwrap_or(7), &mut out)?;
+    } else {
+        print_cents(amount.parse::<u64>().unwrap_or(7), &mut out)?;
     }
-    Ok(())
+    Ok(out.strip_prefix(b"price ") == Some(want.as_bytes()))
 }
 
 #[test]
-fn prints_cents(rt: HostRuntime) -> Result<(), Fail> {
-    let cases = [
-        (0, "0.00"),
-        (99, "0.99"),
-        (100, "1.00"),
-        (1005, "10.05"),
-        (u64::MAX, "184467440737095516.15"),
-    ];
-    for (cents, text) in cases {
-        let mut out = Vec::new(rt.alloc());
-        print_cents(cents, &mut out)?;
-        assert_eq!(rt; out.as_slice(), text.as_bytes(), "{text}");
-    }
-    Ok(())
-}
-
-#[test]
-fn appends(rt: HostRuntime) -> Result<(), Fail> {
-    let mut out = Vec::from_slice(rt.alloc(), b"price ")?;
-    print_cents(5, &mut out)?;
-    assert_eq!(rt; out.as_slice(), b"price 0.05".as_slice());
-    Ok(())
+fn prints_money_and_cents(rt: HostRuntime) -> Result<(), Fail> {
+    assert_cases(&rt, rt.alloc(), Kind::Units, MONEY)?;
+    assert_cases(&rt, rt.alloc(), Kind::Cents, CENTS)
 }

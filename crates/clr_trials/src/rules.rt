@@ -1,5 +1,6 @@
 // Seasons over one ladder and without a calendar, with what their rules say counted by hand.
-use crate::tables::sides;
+use crate::cases::{Kind, assert_cases};
+use crate::tables::{numbers, sides};
 use clr_rules::{Limits, Live, Rule, Rules, Summary, first_path, free_calendar};
 use std::alloc::{AllocError, Global};
 use std::test::Fail;
@@ -35,15 +36,6 @@ fn rules_of(alloc: Global, limits: Limits) -> Result<Rules, AllocError> {
 
 fn numbers_of(s: Summary) -> Numbers {
     (s.last, s.count, s.age)
-}
-
-// The whole numbers that stand in a text with blanks between them, and zeros.
-fn numbers(text: &str) -> [u32; 8] {
-    let mut found = [0; 8];
-    for (number, word) in found.iter_mut().zip(text.split(' ')) {
-        *number = word.parse::<u32>().unwrap_or(0);
-    }
-    found
 }
 
 // What a rung in the next week leaves, or the rule that it breaks; nothing where the calls differ or a number is out of its range.
@@ -95,9 +87,9 @@ const WEEKS: &str = "12 1 100 0 1 0 1 1=>Ok((1, 0, 1))
 12 1 10 1 1 0 1 4=>Err(FirstCut)
 12 1 10 1 2 1 1 4=>Ok((4, 2, 1))";
 
-fn is_week(alloc: Global, case: &str) -> Result<bool, AllocError> {
-    let (text, want) = sides(case);
-    let [markdowns, spacing, first_cut, done, last, count, age, rung] = numbers(text);
+// What a case leaves, or the rule that it breaks.
+fn week_of(alloc: Global, case: [u32; 8]) -> Result<Option<Result<Numbers, Rule>>, AllocError> {
+    let [markdowns, spacing, first_cut, done, last, count, age, rung] = case;
     let limits = Limits {
         markdowns,
         spacing,
@@ -105,18 +97,20 @@ fn is_week(alloc: Global, case: &str) -> Result<bool, AllocError> {
         ..FREE
     };
     let rules = rules_of(alloc, limits)?;
-    let Some(got) = week(&rules, done, Summary { last, count, age }, rung) else {
-        return Ok(false);
-    };
-    Ok(format!(in alloc; "{got:?}")?.as_str() == want)
+    Ok(week(&rules, done, Summary { last, count, age }, rung))
+}
+
+pub(crate) fn is_week(alloc: Global, case: &str) -> Result<bool, AllocError> {
+    let (text, want) = sides(case);
+    match week_of(alloc, numbers(text))? {
+        Some(got) => Ok(format!(in alloc; "{got:?}")?.as_str() == want),
+        None => Ok(false),
+    }
 }
 
 #[test]
 fn weeks_by_their_rules(rt: HostRuntime) -> Result<(), Fail> {
-    for case in WEEKS.lines() {
-        assert!(rt; is_week(rt.alloc(), case)?, "{case}");
-    }
-    Ok(())
+    assert_cases(&rt, rt.alloc(), Kind::Week, WEEKS)
 }
 
 // The place of a live summary and the one after it, by each call that tells of it.
@@ -130,8 +124,16 @@ fn place_and_next(live: &Live, done: u32, s: Summary) -> (Option<u32>, Option<Nu
     )
 }
 
-// The weeks done, a summary's last rung, count and age, its place where it is live, and the live one after it: in two weeks with
-// one markdown and a first cut that reaches the second rung alone.
+// Two weeks with one markdown and a first cut that reaches the second rung alone.
+const TWO_WEEKS: Limits = Limits {
+    weeks: 2,
+    markdowns: 1,
+    spacing: 2,
+    first_cut: 15,
+    ..FREE
+};
+
+// The weeks done, a summary's last rung, count and age, its place where it is live, and the live one after it, in those two weeks.
 const LIVE: &str = "0 1 0 2=>(Some(0), None)
 1 1 0 2=>(Some(0), Some((2, 1, 1)))
 1 2 1 1=>(Some(1), None)
@@ -141,61 +143,62 @@ const LIVE: &str = "0 1 0 2=>(Some(0), None)
 2 2 1 2=>(Some(2), None)
 3 1 0 2=>(None, None)";
 
-fn is_live(alloc: Global, live: &Live, case: &str) -> Result<bool, AllocError> {
+fn two_weeks(alloc: Global) -> Result<Live, AllocError> {
+    let rules = rules_of(alloc, TWO_WEEKS)?;
+    Live::build(alloc, &rules)
+}
+
+pub(crate) fn is_live(alloc: Global, case: &str) -> Result<bool, AllocError> {
     let (text, want) = sides(case);
     let [done, last, count, age, _, _, _, _] = numbers(text);
-    let got = place_and_next(live, done, Summary { last, count, age });
+    let live = two_weeks(alloc)?;
+    let got = place_and_next(&live, done, Summary { last, count, age });
     Ok(format!(in alloc; "{got:?}")?.as_str() == want)
 }
 
-// The first of the live summaries.
-const STAYED: Summary = Summary {
-    last: 1,
-    count: 0,
-    age: 2,
-};
+// The summary before the first week, and of two weeks the first one and how many there are.
+fn ends(alloc: Global) -> Result<String, AllocError> {
+    let start = numbers_of(rules_of(alloc, TWO_WEEKS)?.start());
+    let live = two_weeks(alloc)?;
+    let first = live.first(2).map(numbers_of);
+    format!(in alloc; "{start:?} {first:?} {}", live.count(2))
+}
 
 #[test]
 fn live_summaries_in_their_order(rt: HostRuntime) -> Result<(), Fail> {
-    let limits = Limits {
-        weeks: 2,
-        markdowns: 1,
-        spacing: 2,
-        first_cut: 15,
-        ..FREE
-    };
-    let rules = rules_of(rt.alloc(), limits)?;
-    assert!(rt; rules.start() == STAYED);
-    let live = Live::build(rt.alloc(), &rules)?;
-    for case in LIVE.lines() {
-        assert!(rt; is_live(rt.alloc(), &live, case)?, "{case}");
-    }
-    assert!(rt; live.first(2) == Some(STAYED) && live.count(2) == 3);
-    Ok(())
+    assert!(rt; ends(rt.alloc())?.as_str() == "(1, 0, 2) Some((1, 0, 2)) 3");
+    assert_cases(&rt, rt.alloc(), Kind::Live, LIVE)
 }
 
-// The first path of so many weeks with so many markdowns, where there is one.
-fn path_of(alloc: Global, weeks: u32, markdowns: u32) -> Result<String, AllocError> {
+// The first path, or an empty one where there is none.
+fn path_of(alloc: Global, rules: &Rules) -> Result<Vec<u32>, AllocError> {
+    let live = Live::build(alloc, rules)?;
+    if live.any() {
+        first_path(alloc, rules, &live)
+    } else {
+        Ok(Vec::new(alloc))
+    }
+}
+
+// Weeks and markdowns, and the first path. Where no calendar forbids it, the path that stays is the first.
+const PATHS: &str = "1 0=>[1]
+4 12=>[1, 1, 1, 1]
+2 1=>[1, 1]";
+
+pub(crate) fn is_first(alloc: Global, case: &str) -> Result<bool, AllocError> {
+    let (text, want) = sides(case);
+    let [weeks, markdowns, _, _, _, _, _, _] = numbers(text);
     let limits = Limits {
         weeks,
         markdowns,
         ..FREE
     };
     let rules = rules_of(alloc, limits)?;
-    let live = Live::build(alloc, &rules)?;
-    if !live.any() {
-        return String::from_str(alloc, "no path");
-    }
-    let path = first_path(alloc, &rules, &live)?;
-    format!(in alloc; "{path:?}")
+    let path = path_of(alloc, &rules)?;
+    Ok(format!(in alloc; "{path:?}")?.as_str() == want)
 }
 
-// Where no calendar forbids it, the path that stays is the first.
 #[test]
 fn first_paths(rt: HostRuntime) -> Result<(), Fail> {
-    for (weeks, markdowns, want) in [(1, 0, "[1]"), (4, 12, "[1, 1, 1, 1]"), (2, 1, "[1, 1]")] {
-        let path = path_of(rt.alloc(), weeks, markdowns)?;
-        assert!(rt; path.as_str() == want, "{want}");
-    }
-    Ok(())
+    assert_cases(&rt, rt.alloc(), Kind::Path, PATHS)
 }

@@ -1,4 +1,5 @@
 // Cases of rules.json and calendar.csv.
+use crate::cases::{Kind, assert_cases};
 use crate::tables::{file_of, refusal, sides};
 use clr_rules::{Calendar, read_calendar, read_limits};
 use std::alloc::{AllocError, Global};
@@ -8,8 +9,8 @@ use std::test::Fail;
 // What stands for `$` in a file of rules.
 const WEEKS_AND_BASE: &str = r#""weeks":1,"base":4"#;
 
-// Files that are no JSON text, or no object.
-const NO_OBJECTS: &str = r#"=>0 0 Json
+// Files that are no JSON text or no object, and objects, with the field that they are refused at and why.
+const REFUSED: &str = r#"=>0 0 Json
  =>0 0 Json
 [=>0 0 Json
 []=>0 0 Json
@@ -25,10 +26,8 @@ true=>0 0 Json
 {"weeks":1e400,"base":4}=>0 0 Json
 {'weeks':1,'base':4}=>0 0 Json
 @@{$}=>0 0 Json
-{$,"!":1}=>0 0 Json"#;
-
-// Objects, and at which field and why they are refused.
-const FIELDS: &str = r#"{$,"colour":2}=>0 0 Field
+{$,"!":1}=>0 0 Json
+{$,"colour":2}=>0 0 Field
 {"weeks":0,"Base":4}=>0 0 Field
 {$,"":0}=>0 0 Field
 {"first cut":1}=>0 0 Field
@@ -94,55 +93,36 @@ fn limits_of(alloc: Global, file: &[u8]) -> Result<String, AllocError> {
     }
 }
 
-fn are_limits(alloc: Global, case: &str) -> Result<bool, AllocError> {
+pub(crate) fn are_limits(alloc: Global, case: &str) -> Result<bool, AllocError> {
     let (file, want) = sides(case);
     let file = file_of(alloc, file, WEEKS_AND_BASE)?;
     Ok(limits_of(alloc, &file)?.as_str() == want)
 }
 
 #[test]
-fn no_objects(rt: HostRuntime) -> Result<(), Fail> {
-    for case in NO_OBJECTS.lines() {
-        assert!(rt; are_limits(rt.alloc(), case)?, "{case}");
-    }
-    Ok(())
-}
-
-#[test]
 fn limits(rt: HostRuntime) -> Result<(), Fail> {
-    for case in FIELDS.lines().chain(LIMITS.lines()) {
-        assert!(rt; are_limits(rt.alloc(), case)?, "{case}");
-    }
-    Ok(())
+    assert_cases(&rt, rt.alloc(), Kind::Limits, REFUSED)?;
+    assert_cases(&rt, rt.alloc(), Kind::Limits, LIMITS)
 }
 
-// An object whose weeks are so many arrays, one in another.
-fn nested(alloc: Global, arrays: usize) -> Result<String, AllocError> {
-    let mut text = String::from_str(alloc, "{\"weeks\":")?;
-    for _ in 0..arrays {
-        text.push('[')?;
-    }
-    for _ in 0..arrays {
-        text.push(']')?;
-    }
-    text.push_str(",\"base\":4}")?;
-    Ok(text)
+// How many arrays stand one in another, and how an object is refused whose weeks they are.
+const NESTED: &str = "1=>0 2 Number
+126=>0 2 Number
+127=>0 0 Json
+128=>0 0 Json";
+
+pub(crate) fn are_nested(alloc: Global, case: &str) -> Result<bool, AllocError> {
+    let (arrays, want) = sides(case);
+    let arrays = arrays.parse::<usize>().unwrap_or(0);
+    let mut text = "[".repeat(alloc, arrays)?;
+    text.push_str(&"]".repeat(alloc, arrays)?)?;
+    let file = file_of(alloc, r#"{"weeks":$,"base":4}"#, &text)?;
+    Ok(limits_of(alloc, &file)?.as_str() == want)
 }
 
 #[test]
 fn nested_arrays(rt: HostRuntime) -> Result<(), Fail> {
-    let alloc = rt.alloc();
-    for (arrays, want) in [
-        (1, "0 2 Number"),
-        (126, "0 2 Number"),
-        (127, "0 0 Json"),
-        (128, "0 0 Json"),
-    ] {
-        let file = nested(alloc, arrays)?;
-        let found = limits_of(alloc, file.as_bytes())?;
-        assert!(rt; found.as_str() == want, "{arrays}");
-    }
-    Ok(())
+    assert_cases(&rt, rt.alloc(), Kind::Nested, NESTED)
 }
 
 // What stands for `$` in a calendar file.
@@ -213,41 +193,28 @@ fn calendar_of(alloc: Global, file: &str, weeks: u32) -> Result<String, AllocErr
     }
 }
 
-fn is_calendar(alloc: Global, case: &str, weeks: u32) -> Result<bool, AllocError> {
+pub(crate) fn is_calendar(alloc: Global, case: &str, weeks: u32) -> Result<bool, AllocError> {
     let (file, want) = sides(case);
     Ok(calendar_of(alloc, file, weeks)?.as_str() == want)
 }
 
 #[test]
-fn refused_calendars(rt: HostRuntime) -> Result<(), Fail> {
-    for case in CALENDARS.lines() {
-        assert!(rt; is_calendar(rt.alloc(), case, 4)?, "{case}");
-    }
-    Ok(())
-}
-
-#[test]
 fn calendars(rt: HostRuntime) -> Result<(), Fail> {
-    for case in READ.lines() {
-        assert!(rt; is_calendar(rt.alloc(), case, 3)?, "{case}");
-    }
-    Ok(())
+    assert_cases(&rt, rt.alloc(), Kind::FourWeeks, CALENDARS)?;
+    assert_cases(&rt, rt.alloc(), Kind::ThreeWeeks, READ)
 }
 
-// A calendar of 52 weeks whose last one alone has a row.
-fn last_of_52(alloc: Global) -> Result<String, AllocError> {
-    let mut text = String::new(alloc);
-    for _ in 1..52 {
-        text.push_str("1-12 ")?;
-    }
-    text.push_str("2-2")?;
-    Ok(text)
+// Whether a calendar of 52 weeks is read whose last one alone has a row.
+fn has_last_of_52(alloc: Global) -> Result<bool, AllocError> {
+    let others = "1-12 ".repeat(alloc, 51)?;
+    let found = calendar_of(alloc, "$52,2,2,0|", 52)?;
+    Ok(found.strip_prefix(others.as_str()) == Some("2-2"))
 }
 
 #[test]
 fn longest_calendar(rt: HostRuntime) -> Result<(), Fail> {
     let alloc = rt.alloc();
-    assert!(rt; calendar_of(alloc, "$52,2,2,0|", 52)? == last_of_52(alloc)?);
+    assert!(rt; has_last_of_52(alloc)?);
     assert!(rt; is_calendar(alloc, "$52,2,2,0|=>1 1 Range", 51)?);
     assert!(rt; is_calendar(alloc, "$1,2,2,0|=>2-2", 1)?);
     Ok(())

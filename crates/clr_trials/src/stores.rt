@@ -1,7 +1,8 @@
 // Cases of ladder.csv and stock.csv.
+use crate::cases::{Kind, assert_cases};
 use crate::tables::{file_of, refusal, sides};
 use clr_stock::{Stock, read_ladder, read_stock};
-use clr_text::{FileError, Why, refused};
+use clr_text::FileError;
 use std::alloc::{AllocError, Global};
 use std::fmt::Write;
 use std::test::Fail;
@@ -43,7 +44,7 @@ fn ladder_of(alloc: Global, file: &[u8]) -> Result<String, AllocError> {
     }
 }
 
-fn is_ladder(alloc: Global, case: &str) -> Result<bool, AllocError> {
+pub(crate) fn is_ladder(alloc: Global, case: &str) -> Result<bool, AllocError> {
     let (file, want) = sides(case);
     let file = file_of(alloc, file, LADDER)?;
     Ok(ladder_of(alloc, &file)?.as_str() == want)
@@ -51,10 +52,7 @@ fn is_ladder(alloc: Global, case: &str) -> Result<bool, AllocError> {
 
 #[test]
 fn ladders(rt: HostRuntime) -> Result<(), Fail> {
-    for case in LADDERS.lines() {
-        assert!(rt; is_ladder(rt.alloc(), case)?, "{case}");
-    }
-    Ok(())
+    assert_cases(&rt, rt.alloc(), Kind::Ladder, LADDERS)
 }
 
 #[test]
@@ -89,13 +87,14 @@ $a,x,2|b,1|=>2 0 Fields
 $a!,1,2|=>1 1 Name
 store,units,salvage,relabel|a b,0,0,100000|c,7,0.5,12.34|=>0 0 Header";
 
-// Stock files with a column of relabelling, and where and why they are refused.
+// Stock files with a column of relabelling, and where and why they are refused, or their first and last store.
 const RELABELS: &str = "store,units,salvage|a,1,2|=>0 0 Header
 store,units,relabel,salvage|a,1,2,3|=>0 0 Header
 $a,1,2|=>1 0 Fields
 $a,1,2,x|=>1 4 Money
 $a,1,2,100000.01|=>1 4 Range
-$a,1,2,3|a,1,2,x|=>2 4 Money";
+$a,1,2,3|a,1,2,x|=>2 4 Money
+$a b,0,0,100000|c,7,0.5,12.34|=>2: a b Some(1) 0 0 10000000; c Some(2) 7 50 1234";
 
 fn stock_of(alloc: Global, file: &[u8], relabel: bool) -> Result<Stock, FileError> {
     if file.len() > 10_000 {
@@ -104,29 +103,45 @@ fn stock_of(alloc: Global, file: &[u8], relabel: bool) -> Result<Stock, FileErro
     read_stock(alloc, file, relabel)
 }
 
-fn is_refused(alloc: Global, case: &str, relabel: bool) -> Result<bool, AllocError> {
+// A store's name and its number by that name, its units, and what one that is left over earns and a markdown week costs.
+fn store(alloc: Global, stock: &Stock, store: u32) -> Result<String, AllocError> {
+    if store < 1 || store > stock.len() {
+        return String::from_str(alloc, "no store");
+    }
+    let name = stock.names().get(store);
+    let found = stock.names().find(name.as_bytes());
+    let (units, salvage) = (stock.units(store), stock.salvage(store));
+    format!(in alloc;
+        "{name} {found:?} {units} {salvage} {}",
+        stock.relabel(store)
+    )
+}
+
+// The number of stores, the first store and the last.
+fn ends(alloc: Global, stock: &Stock) -> Result<String, AllocError> {
+    let first = store(alloc, stock, 1)?;
+    let last = store(alloc, stock, stock.len())?;
+    format!(in alloc; "{}: {first}; {last}", stock.len())
+}
+
+// What is shown of a stock file, or its refusal.
+fn shown(alloc: Global, file: &[u8], relabel: bool) -> Result<String, AllocError> {
+    match stock_of(alloc, file, relabel) {
+        Ok(stock) => ends(alloc, &stock),
+        Err(error) => refusal(alloc, error),
+    }
+}
+
+pub(crate) fn is_shown(alloc: Global, case: &str, relabel: bool) -> Result<bool, AllocError> {
     let (file, want) = sides(case);
     let file = file_of(alloc, file, if relabel { RELABELLED } else { PLAIN })?;
-    match stock_of(alloc, &file, relabel) {
-        Ok(_) => Ok(false),
-        Err(error) => Ok(refusal(alloc, error)?.as_str() == want),
-    }
+    Ok(shown(alloc, &file, relabel)?.as_str() == want)
 }
 
 #[test]
-fn refused_stocks(rt: HostRuntime) -> Result<(), Fail> {
-    for case in STOCKS.lines() {
-        assert!(rt; is_refused(rt.alloc(), case, false)?, "{case}");
-    }
-    Ok(())
-}
-
-#[test]
-fn relabelling(rt: HostRuntime) -> Result<(), Fail> {
-    for case in RELABELS.lines() {
-        assert!(rt; is_refused(rt.alloc(), case, true)?, "{case}");
-    }
-    Ok(())
+fn stocks_without_and_with_relabelling(rt: HostRuntime) -> Result<(), Fail> {
+    assert_cases(&rt, rt.alloc(), Kind::Stock, STOCKS)?;
+    assert_cases(&rt, rt.alloc(), Kind::Relabelled, RELABELS)
 }
 
 // A stock file of so many stores.
@@ -138,39 +153,15 @@ fn many(alloc: Global, stores: u32) -> Result<String, AllocError> {
     Ok(text)
 }
 
+fn has_many(alloc: Global, stores: u32, want: &str) -> Result<bool, AllocError> {
+    let file = many(alloc, stores)?;
+    Ok(shown(alloc, file.as_bytes(), false)?.as_str() == want)
+}
+
 #[test]
 fn most_stores(rt: HostRuntime) -> Result<(), Fail> {
-    let file = many(rt.alloc(), 64)?;
-    let stock = stock_of(rt.alloc(), file.as_bytes(), false)?;
-    assert!(rt;
-        stock.len() == 64
-            && stock.names().get(64) == "s63"
-            && stock.units(64) == 2000
-            && stock.salvage(64) == 10_000_000
-            && stock.relabel(64) == 0
-    );
-    Ok(())
-}
-
-#[test]
-fn too_many_stores(rt: HostRuntime) -> Result<(), Fail> {
-    let file = many(rt.alloc(), 65)?;
-    let found = stock_of(rt.alloc(), file.as_bytes(), false).err();
-    let want = refused(0, 0, Why::Count { found: 65 });
-    assert!(rt; found == Some(want));
-    Ok(())
-}
-
-#[test]
-fn costs_of_relabelling(rt: HostRuntime) -> Result<(), Fail> {
-    let text = b"store,units,salvage,relabel\na b,0,0,100000\nc,7,0.5,12.34\n";
-    let stock = stock_of(rt.alloc(), text, true)?;
-    assert!(rt;
-        stock.len() == 2
-            && stock.names().find(b"c") == Some(2)
-            && stock.relabel(1) == 10_000_000
-            && stock.salvage(2) == 50
-            && stock.relabel(2) == 1234
-    );
+    let want = "64: s0 Some(1) 2000 10000000 0; s63 Some(64) 2000 10000000 0";
+    assert!(rt; has_many(rt.alloc(), 64, want)?);
+    assert!(rt; has_many(rt.alloc(), 65, "0 0 Count { found: 65 }")?);
     Ok(())
 }

@@ -11,6 +11,20 @@ pub(crate) fn sides(case: &str) -> (&str, &str) {
     case.split_once("=>").unwrap_or((case, ""))
 }
 
+/// The two parts of a text around its first blank.
+pub(crate) fn parts(text: &str) -> (&str, &str) {
+    text.split_once(' ').unwrap_or((text, ""))
+}
+
+/// The whole numbers that stand in a text with blanks between them, and zeros.
+pub(crate) fn numbers(text: &str) -> [u32; 8] {
+    let mut found = [0; 8];
+    for (number, word) in found.iter_mut().zip(text.split(' ')) {
+        *number = word.parse::<u32>().unwrap_or(0);
+    }
+    found
+}
+
 // What a byte stands for that isn't one for itself.
 fn meant(sign: u8) -> Option<&'static [u8]> {
     match sign {

@@ -1,25 +1,23 @@
 // Demand files that are read, and files that are refused.
-ghost use Rattle.std.specs.Prelude.{◌≡◌, ◌≤◌, length, IfOk};
+ghost use Rattle.std.specs.Prelude.{◌≡◌, ◌≤◌};
 
-use crate::tables::{file_of, refusal, sides};
+use crate::tables::{file_of, numbers, refusal, sides};
 use clr_demand::{Demand, read_demand};
 use clr_text::Names;
 use std::alloc::{AllocError, Global};
-use std::process::Abort;
 use std::test::Fail;
 
 // What stands for `$` in a demand file.
 const COLUMNS: &str = "store,week,rung,units,weight\n";
 
 // The stores a and b.
-fn two_stores(rt: &impl Abort, alloc: Global) -> Result<Names, AllocError>
-    ensures { IfOk result (λ names. length names ≡ 2) }
-{
+fn two_stores(alloc: Global) -> Result<Names, AllocError> {
     let mut names = Names::new(alloc);
-    names.push("a".as_bytes())?;
-    assert_eq!(rt; names.len(), 1);
-    names.push("b".as_bytes())?;
-    assert_eq!(rt; names.len(), 2);
+    for name in ["a", "b"] {
+        if names.len() < 64 {
+            names.push(name.as_bytes())?;
+        }
+    }
     Ok(names)
 }
 
@@ -65,70 +63,32 @@ fn shown(alloc: Global, demand: &Demand, count: u32) -> Result<String, AllocErro
     Ok(text)
 }
 
-// What is shown of a demand file for so many weeks and as many rungs, or its refusal.
+// What is shown of a demand file for the two stores, so many weeks and as many rungs, or its refusal.
 fn demand_of(
     alloc: Global,
     file: &[u8],
-    names: &Names,
     count: u32,
     base: u32,
     scaled: bool,
 ) -> Result<String, AllocError>
-    requires names { length names.now ≡ 2 }
     requires count { (1 ≤ count) × (count ≤ 2) }
     requires base { (1 ≤ base) × (base ≤ 12) }
 {
-    if file.len() > 1000 {
+    let names = two_stores(alloc)?;
+    if names.len() != 2 || file.len() > 1000 {
         return String::from_str(alloc, "too long");
     }
-    match read_demand(alloc, file, names, count, count, base, scaled) {
+    match read_demand(alloc, file, &names, count, count, base, scaled) {
         Ok(demand) => shown(alloc, &demand, count),
         Err(error) => refusal(alloc, error),
     }
 }
 
-// A table of files for so many weeks and as many rungs.
-#[derive(Clone, Copy)]
-struct Cases {
-    count: u32,
-    base: u32,
-    scaled: bool,
-    files: &'static str,
-}
-
-// Whether a case of a table is as it must.
-fn is_read(alloc: Global, names: &Names, cases: &Cases, case: &str) -> Result<bool, AllocError>
-    requires names { length names.now ≡ 2 }
-{
-    let (file, want) = sides(case);
-    let file = file_of(alloc, file, COLUMNS)?;
-    let (count, base) = (cases.count.clamp(1, 2), cases.base.clamp(1, 12));
-    let found = demand_of(alloc, &file, names, count, base, cases.scaled)?;
-    Ok(found.as_str() == want)
-}
-
-// The first case of a table that isn't as it must; nothing where each is.
-fn wrong_case(
-    alloc: Global,
-    names: &Names,
-    cases: &Cases,
-) -> Result<Option<&'static str>, AllocError>
-    requires names { length names.now ≡ 2 }
-{
-    for case in cases.files.lines() {
-        if !is_read(alloc, names, cases, case)? {
-            return Ok(Some(case));
-        }
-    }
-    Ok(None)
-}
-
-// One week and one rung, with weights out of 4: what headers and rows are refused for, and a file that is read.
-const ONE_OF_4: Cases = Cases {
-    count: 1,
-    base: 4,
-    scaled: false,
-    files: r#"=>0 0 Header
+// Demand files, each with what is shown of it or its refusal. A line that begins with `#` is a heading: the number of weeks and of rungs,
+// the base and 1 where weights are scaled to it, for the files up to the next.
+const FILES: &str =
+    r#"# 1 4 0 one week and one rung, with weights out of 4: what headers and rows are refused for, and a file that is read
+=>0 0 Header
 a,1,1,0,4|=>0 0 Header
 store,week,rung,weight,units|=>0 0 Header
 store,week,rung,units|=>0 0 Header
@@ -156,52 +116,40 @@ $=>0 0 Total { store: 1, week: 1, rung: 1, found: 0 }
 $a,1,1,0,4|=>0 0 Total { store: 2, week: 1, rung: 1, found: 0 }
 $b,1,1,0,3|a,1,1,0,3|=>0 0 Total { store: 1, week: 1, rung: 1, found: 3 }
 $a,1,1,0,3|a,1,1,1,2|=>0 0 Total { store: 1, week: 1, rung: 1, found: 5 }
-@store , week,rung~,units,weight^| b ,1,1,2,4^|a,01,1,0,1^|^|"a",1,1,1, 3=>[1, 3, 0] [1, 3, 0] [4, 3, 0, 0];[0, 0, 4] [0, 0, 4] [4, 4, 4, 0];"#,
-};
-
-// Two weeks and two rungs: totals are judged by store, week and rung.
-const TWO_OF_1: Cases = Cases {
-    count: 2,
-    base: 1,
-    scaled: false,
-    files: "$a,1,1,0,1|a,1,2,0,1|a,2,1,0,1|b,1,2,0,1|b,2,1,0,1|b,2,2,0,1|=>0 0 Total { store: 1, week: 2, rung: 2, found: 0 }
+@store , week,rung~,units,weight^| b ,1,1,2,4^|a,01,1,0,1^|^|"a",1,1,1, 3=>[1, 3, 0] [1, 3, 0] [4, 3, 0, 0];[0, 0, 4] [0, 0, 4] [4, 4, 4, 0];
+# 2 1 0 two weeks and two rungs: totals are judged by store, week and rung
+$a,1,1,0,1|a,1,2,0,1|a,2,1,0,1|b,1,2,0,1|b,2,1,0,1|b,2,2,0,1|=>0 0 Total { store: 1, week: 2, rung: 2, found: 0 }
 $b,2,2,0,1|a,1,1,0,1|a,2,2,0,1|b,1,1,0,1|b,1,2,0,1|b,2,1,0,1|=>0 0 Total { store: 1, week: 1, rung: 2, found: 0 }
-$a,1,1,0,1|a,1,2,0,1|a,2,1,0,1|a,2,2,0,1|b,1,1,0,1|b,1,2,0,1|b,2,2,0,1|=>0 0 Total { store: 2, week: 2, rung: 1, found: 0 }",
-};
-
-// Weights stand by store, week and rung.
-const TWO_OF_8: Cases = Cases {
-    count: 2,
-    base: 8,
-    scaled: false,
-    files: "$b,2,2,0,8|b,2,1,0,7|b,1,2,0,6|b,1,1,0,5|a,2,2,0,4|a,2,1,0,3|a,1,2,0,2|a,1,1,0,1|a,1,1,1,7|a,1,2,1,6|a,2,1,1,5|a,2,2,1,4|b,1,1,1,3|b,1,2,1,2|b,2,1,1,1|=>[1, 7] [1, 7] [8, 7, 0];[2, 6] [2, 6] [8, 6, 0];[3, 5] [3, 5] [8, 5, 0];[4, 4] [4, 4] [8, 4, 0];[5, 3] [5, 3] [8, 3, 0];[6, 2] [6, 2] [8, 2, 0];[7, 1] [7, 1] [8, 1, 0];[8, 0] [8, 0] [8, 0, 0];",
-};
-
-// Weights that are scaled to the base 12: by 3 and by 1, or not at all.
-const SCALED: Cases = Cases {
-    count: 1,
-    base: 12,
-    scaled: true,
-    files: "$a,1,1,0,1|a,1,1,1,4|=>0 0 Total { store: 1, week: 1, rung: 1, found: 5 }
+$a,1,1,0,1|a,1,2,0,1|a,2,1,0,1|a,2,2,0,1|b,1,1,0,1|b,1,2,0,1|b,2,2,0,1|=>0 0 Total { store: 2, week: 2, rung: 1, found: 0 }
+# 2 8 0 weights stand by store, week and rung
+$b,2,2,0,8|b,2,1,0,7|b,1,2,0,6|b,1,1,0,5|a,2,2,0,4|a,2,1,0,3|a,1,2,0,2|a,1,1,0,1|a,1,1,1,7|a,1,2,1,6|a,2,1,1,5|a,2,2,1,4|b,1,1,1,3|b,1,2,1,2|b,2,1,1,1|=>[1, 7] [1, 7] [8, 7, 0];[2, 6] [2, 6] [8, 6, 0];[3, 5] [3, 5] [8, 5, 0];[4, 4] [4, 4] [8, 4, 0];[5, 3] [5, 3] [8, 3, 0];[6, 2] [6, 2] [8, 2, 0];[7, 1] [7, 1] [8, 1, 0];[8, 0] [8, 0] [8, 0, 0];
+# 1 12 1 weights that are scaled to the base 12: by 3 and by 1, or not at all
+$a,1,1,0,1|a,1,1,1,4|=>0 0 Total { store: 1, week: 1, rung: 1, found: 5 }
 $a,1,1,0,0|b,1,1,0,12|=>0 0 Total { store: 1, week: 1, rung: 1, found: 0 }
 $a,1,1,0,6|=>0 0 Total { store: 2, week: 1, rung: 1, found: 0 }
 $a,1,1,0,12|a,1,1,1,12|=>0 0 Total { store: 1, week: 1, rung: 1, found: 24 }
-$a,1,1,0,1|a,1,1,1,3|b,1,1,1,12|=>[3, 9] [3, 9] [12, 9, 0];[0, 12] [0, 12] [12, 12, 0];",
-};
+$a,1,1,0,1|a,1,1,1,3|b,1,1,1,12|=>[3, 9] [3, 9] [12, 9, 0];[0, 12] [0, 12] [12, 12, 0];
+# 1 12 0 weights that are not scaled are too few
+$a,1,1,0,1|a,1,1,1,3|b,1,1,1,12|=>0 0 Total { store: 1, week: 1, rung: 1, found: 4 }"#;
 
-// Weights that aren't scaled are too few.
-const NOT_SCALED: Cases = Cases {
-    count: 1,
-    base: 12,
-    scaled: false,
-    files: "$a,1,1,0,1|a,1,1,1,3|b,1,1,1,12|=>0 0 Total { store: 1, week: 1, rung: 1, found: 4 }",
-};
+// Whether a case is as it must, below a heading with these numbers.
+fn is_read(alloc: Global, sizes: [u32; 8], case: &str) -> Result<bool, AllocError> {
+    let (file, want) = sides(case);
+    let file = file_of(alloc, file, COLUMNS)?;
+    let (count, base) = (sizes[0].clamp(1, 2), sizes[1].clamp(1, 12));
+    let found = demand_of(alloc, &file, count, base, sizes[2] == 1)?;
+    Ok(found.as_str() == want)
+}
 
 #[test]
 fn demand_files_are_read_or_refused(rt: HostRuntime) -> Result<(), Fail> {
-    let names = two_stores(&rt, rt.alloc())?;
-    for cases in [ONE_OF_4, TWO_OF_1, TWO_OF_8, SCALED, NOT_SCALED] {
-        assert_eq!(rt; wrong_case(rt.alloc(), &names, &cases)?, None);
+    let mut sizes = [0; 8];
+    for case in FILES.lines() {
+        if let Some(heading) = case.strip_prefix("# ") {
+            sizes = numbers(heading);
+        } else {
+            assert!(rt; is_read(rt.alloc(), sizes, case)?, "{case}");
+        }
     }
     Ok(())
 }

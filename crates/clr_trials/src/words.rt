@@ -1,4 +1,5 @@
 // Words of the command line, and what they ask.
+use crate::cases::{Kind, assert_cases};
 use crate::tables::sides;
 use clr_words::{WordsError, read_words};
 use std::alloc::{AllocError, Global};
@@ -28,8 +29,8 @@ fn words_of(alloc: Global, text: &str) -> Result<Vec<String>, AllocError> {
     Ok(words)
 }
 
-// Whether the words of a case are answered as it says. A line that begins with `#` is a heading.
-fn is_answered(alloc: Global, case: &str) -> Result<bool, AllocError> {
+/// Whether the words of a case are answered as it says. A line that begins with `#` is a heading.
+pub(crate) fn is_answered(alloc: Global, case: &str) -> Result<bool, AllocError> {
     if case.starts_with('#') {
         return Ok(true);
     }
@@ -82,14 +83,6 @@ plan,f,--cert==>Plan f 20 1 100000  1
 plan,a b/c=>Plan a b/c 20 1 100000 - 1
 plan,plan=>Plan plan 20 1 100000 - 1";
 
-#[test]
-fn words_that_ask(rt: HostRuntime) -> Result<(), Fail> {
-    for case in ASKED.lines() {
-        assert!(rt; is_answered(rt.alloc(), case)?, "{case}");
-    }
-    Ok(())
-}
-
 // Words that ask nothing, first of all none.
 const FAULTY: &str = "=>faulty
 plan=>faulty
@@ -138,9 +131,7 @@ plan,f,--help=>faulty
 -V=>faulty";
 
 #[test]
-fn words_that_ask_nothing(rt: HostRuntime) -> Result<(), Fail> {
-    for case in FAULTY.lines() {
-        assert!(rt; is_answered(rt.alloc(), case)?, "{case}");
-    }
-    Ok(())
+fn words_are_answered(rt: HostRuntime) -> Result<(), Fail> {
+    assert_cases(&rt, rt.alloc(), Kind::Words, ASKED)?;
+    assert_cases(&rt, rt.alloc(), Kind::Words, FAULTY)
 }

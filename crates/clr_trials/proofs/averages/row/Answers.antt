@@ -1,6 +1,6 @@
 use Rattle.std.proofs.Common.{ℕ, ◌-◌, ◌≤◌, ◌^◌, ℤ, pos, negsuc, List, [], ◌∷◌, EachIndex, get_or, refl, rules, arith}
 use Rattle.clr_average.specs.Average.{IsRow, IsWithin}
-use Rattle.clr_trials.proofs.averages.averages_lean_at_both_widths.Goals as goal
+use Rattle.clr_trials.proofs.averages.row.Goals as goal
 
 abbrev weights : List ℕ
 weights = 1 ∷ 2 ∷ 1 ∷ []
@@ -12,13 +12,4 @@ is_row : (limit : ℕ) → 564 ≤ limit → IsRow limit 4 10 101 weights after
 is_row limit fits = let each : EachIndex after (λ k. IsWithin 101 (get_or after k (pos 0))) = search rules in record { some = omega arith; whole = refl; values = each; fits = fits; small = omega arith }
 
 pub average_row-requires-clause-row : goal.average_row-requires-clause-row
-average_row-requires-clause-row g c = (101, is_row (2 ^ 63 - 1) (omega arith))
-
-pub average_row-requires-2-clause-row : goal.average_row-requires-2-clause-row
-average_row-requires-2-clause-row g c = (101, is_row (2 ^ 63 - 1) (omega arith))
-
-pub average_row-requires-3-clause-row : goal.average_row-requires-3-clause-row
-average_row-requires-3-clause-row g c = (101, is_row (2 ^ 127 - 1) (omega arith))
-
-pub average_row-requires-4-clause-row : goal.average_row-requires-4-clause-row
-average_row-requires-4-clause-row g c = (101, is_row (2 ^ 127 - 1) (omega arith))
+average_row-requires-clause-row g c = (101, is_row g.A.Total.limit c.requires.room)
