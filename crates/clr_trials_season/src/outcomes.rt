@@ -7,7 +7,7 @@ ghost use Rattle.clr_model.specs.Policies.{const_tree};
 ghost use Rattle.clr_rules.specs.Rules.{IsPath};
 ghost use Rattle.std.specs.Prelude.{◌≡◌, ◌≤◌, ◌*◌, length, IfOk};
 
-use crate::seasons::{season_of, want_and_rest};
+use crate::seasons::{shows, want_and_rest, wrong_case};
 use clr_model::Path;
 use clr_num::{Direction, Down, Up};
 use clr_path::PathTable;
@@ -123,7 +123,7 @@ fn worth(alloc: Global, season: &Season, path: &Path) -> Result<String, AllocErr
 }
 
 // The path that a season forces, with what it is worth.
-fn forced(alloc: Global, season: &Season) -> Result<String, AllocError> {
+fn forced(alloc: Global, season: &Season, _told: &str) -> Result<String, AllocError> {
     let Some(path) = only_path(alloc, season)? else {
         return String::from_str(alloc, "no path");
     };
@@ -135,14 +135,11 @@ fn forced(alloc: Global, season: &Season) -> Result<String, AllocError> {
 // Whether a season forces what its case says.
 fn is_forced(alloc: Global, case: &str) -> Result<bool, Fail> {
     let (want, files) = want_and_rest(case);
-    let season = season_of(alloc, files)?;
-    Ok(forced(alloc, &season)?.as_str() == want)
+    shows(alloc, files, forced, "", want)
 }
 
 #[test]
 fn outcomes_sum_to_a_path_s_values(rt: HostRuntime) -> Result<(), Fail> {
-    for case in CASES.split("\n\n") {
-        assert!(rt; is_forced(rt.alloc(), case)?, "{case}");
-    }
+    assert_eq!(rt; wrong_case(rt.alloc(), CASES, "\n\n", is_forced)?, None);
     Ok(())
 }

@@ -1,5 +1,5 @@
-// Small seasons of the tests. A season is a text with a file a line: its name, and behind a blank its bytes, in which `|` stands for
-// a line feed and `@` for a byte order mark.
+// Small seasons of the tests, and what is shown of them. A season is a text with a file a line: its name, and behind a blank its
+// bytes, in which `|` stands for a line feed and `@` for a byte order mark.
 use clr_io::MemoryShelf;
 use clr_season::{Season, read_season};
 use std::alloc::{AllocError, Global};
@@ -25,25 +25,88 @@ pub(crate) fn bytes_of(alloc: Global, text: &str) -> Result<Vec<u8>, AllocError>
     Ok(bytes)
 }
 
-// Puts the files of a text behind those of a list.
-fn put(alloc: Global, text: &str, files: &mut Vec<(String, Vec<u8>)>) -> Result<(), AllocError> {
-    for line in text.lines() {
-        let (name, bytes) = line.split_once(' ').unwrap_or((line, ""));
-        let name = String::from_str(alloc, name)?;
-        files.push((name, bytes_of(alloc, bytes)?))?;
-    }
+/// Puts a file behind those of a list.
+pub(crate) fn put(
+    alloc: Global,
+    name: &str,
+    bytes: Vec<u8>,
+    files: &mut Vec<(String, Vec<u8>)>,
+) -> Result<(), AllocError> {
+    let name = String::from_str(alloc, name)?;
+    files.push((name, bytes))?;
     Ok(())
 }
 
-/// The season of these files, and for each that is absent the common one.
-pub(crate) fn season_of(alloc: Global, text: &str) -> Result<Season, Fail> {
+// These files, and for each that is absent the common one.
+fn files_of(alloc: Global, text: &str) -> Result<Vec<(String, Vec<u8>)>, AllocError> {
     let mut files = Vec::new(alloc);
-    put(alloc, text, &mut files)?;
     // Of two files of a name the first counts.
-    put(alloc, COMMON, &mut files)?;
-    let mut shelf = MemoryShelf::new(files, 16, Vec::new(alloc));
+    for line in text.lines().chain(COMMON.lines()) {
+        let (name, bytes) = line.split_once(' ').unwrap_or((line, ""));
+        put(alloc, name, bytes_of(alloc, bytes)?, &mut files)?;
+    }
+    Ok(files)
+}
+
+fn season_of(alloc: Global, mut shelf: MemoryShelf) -> Result<Season, Fail> {
     let season = read_season(alloc, &mut shelf, "f")?;
     Ok(season)
+}
+
+/// Whether a text was found, and is the wanted one.
+pub(crate) fn is_text(found: Result<String, AllocError>, want: &str) -> Result<bool, Fail> {
+    Ok(found?.as_str() == want)
+}
+
+/// Whether a function that is told something shows the wanted text of the season of a shelf's folder `f`.
+pub(crate) fn read_shows<F: Fn(Global, &Season, &str) -> Result<String, AllocError>>(
+    alloc: Global,
+    shelf: MemoryShelf,
+    show: F,
+    told: &str,
+    want: &str,
+) -> Result<bool, Fail>
+    requires { F.IsAlwaysCallable show }
+{
+    let season = season_of(alloc, shelf)?;
+    is_text(show(alloc, &season, told), want)
+}
+
+/// The same of the season of these files, and for each that is absent the common one.
+pub(crate) fn shows<F: Fn(Global, &Season, &str) -> Result<String, AllocError>>(
+    alloc: Global,
+    files: &str,
+    show: F,
+    told: &str,
+    want: &str,
+) -> Result<bool, Fail>
+    requires { F.IsAlwaysCallable show }
+{
+    let files = files_of(alloc, files)?;
+    let shelf = MemoryShelf::new(files, 16, Vec::new(alloc));
+    read_shows(alloc, shelf, show, told, want)
+}
+
+/// The first of some cases that isn't as it must; nothing where each is.
+pub(crate) fn wrong_case<F: Fn(Global, &str) -> Result<bool, Fail>>(
+    alloc: Global,
+    cases: &'static str,
+    between: &str,
+    is_right: F,
+) -> Result<Option<&'static str>, Fail>
+    requires { F.IsAlwaysCallable is_right }
+{
+    for case in cases.split(between) {
+        if !is_right(alloc, case)? {
+            return Ok(Some(case));
+        }
+    }
+    Ok(None)
+}
+
+/// The two sides of a case.
+pub(crate) fn sides(case: &str) -> (&str, &str) {
+    case.split_once("=>").unwrap_or((case, ""))
 }
 
 /// The line behind a case's heading, and what stands behind that.
