@@ -37,15 +37,17 @@ pub(crate) fn put(
     Ok(())
 }
 
-// These files, and for each that is absent the common one.
-fn files_of(alloc: Global, text: &str) -> Result<Vec<(String, Vec<u8>)>, AllocError> {
-    let mut files = Vec::new(alloc);
-    // Of two files of a name the first counts.
+// Puts these files behind those of a list, and then the common ones; of two files of a name the first counts.
+fn put_files(
+    alloc: Global,
+    text: &str,
+    files: &mut Vec<(String, Vec<u8>)>,
+) -> Result<(), AllocError> {
     for line in text.lines().chain(COMMON.lines()) {
         let (name, bytes) = line.split_once(' ').unwrap_or((line, ""));
-        put(alloc, name, bytes_of(alloc, bytes)?, &mut files)?;
+        put(alloc, name, bytes_of(alloc, bytes)?, files)?;
     }
-    Ok(files)
+    Ok(())
 }
 
 fn season_of(alloc: Global, mut shelf: MemoryShelf) -> Result<Season, Fail> {
@@ -59,7 +61,7 @@ pub(crate) fn is_text(found: Result<String, AllocError>, want: &str) -> Result<b
 }
 
 /// Whether a function that is told something shows the wanted text of the season of a shelf's folder `f`.
-pub(crate) fn read_shows<F: Fn(Global, &Season, &str) -> Result<String, AllocError>>(
+pub(crate) fn read_shows<F: FnOnce(Global, &Season, &str) -> Result<String, AllocError>>(
     alloc: Global,
     shelf: MemoryShelf,
     show: F,
@@ -73,35 +75,19 @@ pub(crate) fn read_shows<F: Fn(Global, &Season, &str) -> Result<String, AllocErr
 }
 
 /// The same of the season of these files, and for each that is absent the common one.
-pub(crate) fn shows<F: Fn(Global, &Season, &str) -> Result<String, AllocError>>(
+pub(crate) fn shows<F: FnOnce(Global, &Season, &str) -> Result<String, AllocError>>(
     alloc: Global,
-    files: &str,
+    text: &str,
     show: F,
     told: &str,
     want: &str,
 ) -> Result<bool, Fail>
     requires { F.IsAlwaysCallable show }
 {
-    let files = files_of(alloc, files)?;
+    let mut files = Vec::new(alloc);
+    put_files(alloc, text, &mut files)?;
     let shelf = MemoryShelf::new(files, 16, Vec::new(alloc));
     read_shows(alloc, shelf, show, told, want)
-}
-
-/// The first of some cases that isn't as it must; nothing where each is.
-pub(crate) fn wrong_case<F: Fn(Global, &str) -> Result<bool, Fail>>(
-    alloc: Global,
-    cases: &'static str,
-    between: &str,
-    is_right: F,
-) -> Result<Option<&'static str>, Fail>
-    requires { F.IsAlwaysCallable is_right }
-{
-    for case in cases.split(between) {
-        if !is_right(alloc, case)? {
-            return Ok(Some(case));
-        }
-    }
-    Ok(None)
 }
 
 /// The two sides of a case.

@@ -1,5 +1,5 @@
 // The spelling of numbers in a certificate.
-use crate::seasons::{is_text, sides, wrong_case};
+use crate::seasons::{is_text, sides};
 use clr_cert::read_num;
 use std::alloc::Global;
 use std::test::Fail;
@@ -38,6 +38,8 @@ fn is_read(alloc: Global, case: &str) -> Result<bool, Fail> {
 
 #[test]
 fn fields_are_read(rt: HostRuntime) -> Result<(), Fail> {
-    assert_eq!(rt; wrong_case(rt.alloc(), FIELDS, "\n", is_read)?, None);
+    for case in FIELDS.lines() {
+        assert!(rt; is_read(rt.alloc(), case)?, "{case}");
+    }
     Ok(())
 }
