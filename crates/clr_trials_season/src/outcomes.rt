@@ -110,7 +110,7 @@ fn plain(alloc: Global, season: &Season, path: &Path) -> Result<Option<i128>, Al
     Ok(Some(cents))
 }
 
-// What a path earns and its two values.
+// A path with what it earns and its two values.
 fn worth(alloc: Global, season: &Season, path: &Path) -> Result<String, AllocError>
     requires { IsPath season.now.rules path.now }
 {
@@ -119,17 +119,15 @@ fn worth(alloc: Global, season: &Season, path: &Path) -> Result<String, AllocErr
     };
     let low = total::<Down>(alloc, season, path)?;
     let high = total::<Up>(alloc, season, path)?;
-    format!(in alloc; "{cents} {low} {high}")
+    format!(in alloc; "{:?} {cents} {low} {high}", path.rungs())
 }
 
 // The path that a season forces, with what it is worth.
 fn forced(alloc: Global, season: &Season, _told: &str) -> Result<String, AllocError> {
-    let Some(path) = only_path(alloc, season)? else {
-        return String::from_str(alloc, "no path");
-    };
-    let worth = worth(alloc, season, &path)?;
-    let rungs = path.rungs();
-    format!(in alloc; "{rungs:?} {worth}")
+    match only_path(alloc, season)? {
+        Some(path) => worth(alloc, season, &path),
+        None => String::from_str(alloc, "no path"),
+    }
 }
 
 // Whether a season forces what its case says.

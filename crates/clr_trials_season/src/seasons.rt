@@ -3,6 +3,7 @@
 use clr_io::MemoryShelf;
 use clr_season::{Season, read_season};
 use std::alloc::{AllocError, Global};
+use std::slice;
 use std::test::Fail;
 
 // The files of most seasons: two weeks and the prices 10.00 and 4.00. On rung 1 one store sells nothing or one unit in each week, and
@@ -16,11 +17,12 @@ f/demand.csv store,week,rung,units,weight|a,1,1,0,1|a,1,1,1,1|a,2,1,0,1|a,2,1,1,
 pub(crate) fn bytes_of(alloc: Global, text: &str) -> Result<Vec<u8>, AllocError> {
     let mut bytes = Vec::new(alloc);
     for sign in text.as_bytes() {
-        match *sign {
-            b'|' => bytes.push(b'\n')?,
-            b'@' => bytes.extend_from_slice(b"\xef\xbb\xbf")?,
-            other => bytes.push(other)?,
-        }
+        let meant = match *sign {
+            b'|' => b"\n",
+            b'@' => b"\xef\xbb\xbf".as_slice(),
+            _ => slice::from_ref(sign),
+        };
+        bytes.extend_from_slice(meant)?;
     }
     Ok(bytes)
 }
@@ -37,13 +39,13 @@ pub(crate) fn put(
     Ok(())
 }
 
-// Puts these files behind those of a list, and then the common ones; of two files of a name the first counts.
+// Puts these files behind those of a list.
 fn put_files(
     alloc: Global,
     text: &str,
     files: &mut Vec<(String, Vec<u8>)>,
 ) -> Result<(), AllocError> {
-    for line in text.lines().chain(COMMON.lines()) {
+    for line in text.lines() {
         let (name, bytes) = line.split_once(' ').unwrap_or((line, ""));
         put(alloc, name, bytes_of(alloc, bytes)?, files)?;
     }
@@ -86,6 +88,8 @@ pub(crate) fn shows<F: FnOnce(Global, &Season, &str) -> Result<String, AllocErro
 {
     let mut files = Vec::new(alloc);
     put_files(alloc, text, &mut files)?;
+    // Of two files of a name the first counts.
+    put_files(alloc, COMMON, &mut files)?;
     let shelf = MemoryShelf::new(files, 16, Vec::new(alloc));
     read_shows(alloc, shelf, show, told, want)
 }
