@@ -1,6 +1,6 @@
 // The made files: their texts, those of seed 1 in part, drawn by hand, and for three seeds a sum of all bytes, worked with another
 // program that was written after the formats alone; and the seasons that they read to, of which some path obeys.
-ghost use Rattle.std.specs.Prelude.{◌<◌, ◌≤◌};
+ghost use Rattle.std.specs.Prelude.{◌<◌};
 
 use crate::seasons::{is_text, put, read_shows, sides};
 use clr_io::MemoryShelf;
