@@ -1,8 +1,8 @@
 // What policies earn, and what stands against them. Values are in units, of which a cent has 10^6.
 ghost use Rattle.clr_policy.specs.Written.{IsPolicy, written};
 
-use crate::seasons::{season_of, want_and_rest};
-use clr_num::{Direction, Down, Up};
+use crate::seasons::{shows, want_and_rest};
+use clr_num::{Down, Up};
 use clr_policy::{Policy, judge, objects, read_policy};
 use clr_season::Season;
 use std::alloc::{AllocError, Global};
@@ -70,40 +70,31 @@ f/ladder.csv rung,price|1,10.00|
 f/stock.csv store,units,salvage|a,1999,0|b,1999,0|c,1999,0|
 f/demand.csv store,week,rung,units,weight|a,1,1,0,1|b,1,1,0,1|c,1,1,0,1|"#;
 
-// Puts the value of a policy behind a text.
-fn put_value<R: Direction>(
-    alloc: Global,
-    season: &Season,
-    policy: &Policy,
-    text: &mut String,
-) -> Result<(), AllocError>
+// The number of rungs and tests of a policy and its two values.
+fn worth(alloc: Global, season: &Season, policy: &Policy) -> Result<String, AllocError>
     requires { IsPolicy season.now (written policy.now) }
 {
-    let value = judge::<R>(alloc, season, policy);
-    write!(text, " {value:?}")
+    let low = judge::<Down>(alloc, season, policy);
+    let high = judge::<Up>(alloc, season, policy);
+    format!(in alloc; "{} {low:?} {high:?}", objects(policy))
 }
 
-// The number of rungs and tests of a policy file and its two values.
-fn judged(alloc: Global, season: &Season, file: &[u8]) -> Result<String, AllocError> {
+// The same of a policy file.
+fn judged(alloc: Global, season: &Season, file: &str) -> Result<String, AllocError> {
     if file.len() > 1000 {
         return String::from_str(alloc, "too long");
     }
-    let Ok(policy) = read_policy(alloc, season, file) else {
-        return String::from_str(alloc, "no policy");
-    };
-    let count = objects(&policy);
-    let mut text = format!(in alloc; "{count}")?;
-    put_value::<Down>(alloc, season, &policy, &mut text)?;
-    put_value::<Up>(alloc, season, &policy, &mut text)?;
-    Ok(text)
+    match read_policy(alloc, season, file.as_bytes()) {
+        Ok(policy) => worth(alloc, season, &policy),
+        Err(_) => String::from_str(alloc, "no policy"),
+    }
 }
 
 // Whether the policy of a case is judged as it must.
 fn is_worth(alloc: Global, case: &str) -> Result<bool, Fail> {
     let (want, rest) = want_and_rest(case);
     let (policy, files) = rest.split_once('\n').unwrap_or((rest, ""));
-    let season = season_of(alloc, files)?;
-    Ok(judged(alloc, &season, policy.as_bytes())?.as_str() == want)
+    shows(alloc, files, judged, policy, want)
 }
 
 #[test]
@@ -114,50 +105,43 @@ fn policies_are_worth_their_values(rt: HostRuntime) -> Result<(), Fail> {
     Ok(())
 }
 
-// The weeks and rungs of a season of four weeks and five rungs.
-const PLACES: &str =
-    "1,1 1,2 1,3 1,4 1,5 2,1 2,2 2,3 2,4 2,5 3,1 3,2 3,3 3,4 3,5 4,1 4,2 4,3 4,4 4,5";
+// A case of four weeks, the prices 5.00 to 1.00 and no markdown, as far as its stores.
+const MANY_STORES: &str = r#"# Four objects times 2000^16, which is held at 10^18.
+4 Err(Size { found: 1000000000000000000 }) Err(Size { found: 1000000000000000000 })
+{"rung":1,"then":{"rung":1,"then":{"rung":1,"then":{"rung":1}}}}
+f/rules.json {"weeks":4,"base":1,"markdowns":0,"spacing":10}
+f/ladder.csv rung,price|1,5.00|2,4.00|3,3.00|4,2.00|5,1.00|
+f/stock.csv store,units,salvage|"#;
 
-// A row for each place of a store of which nothing is asked.
-fn put_rows(store: &str, text: &mut String) -> Result<(), AllocError> {
-    for place in PLACES.split(' ') {
-        for part in [store, ",", place, ",0,1|"] {
-            text.push_str(part)?;
+// Each of 16 stores has 1,999 units, of which none is asked for in any week on any rung.
+const STORES: &str = "s0 s1 s2 s3 s4 s5 s6 s7 s8 s9 s10 s11 s12 s13 s14 s15";
+
+const STOCK: &str = ",1999,0.01|";
+
+const DEMAND: &str =
+    ",1,1,0,1| ,1,2,0,1| ,1,3,0,1| ,1,4,0,1| ,1,5,0,1| ,2,1,0,1| ,2,2,0,1| ,2,3,0,1| ,2,4,0,1| ,2,5,0,1| ,3,1,0,1| ,3,2,0,1| ,3,3,0,1| ,3,4,0,1| ,3,5,0,1| ,4,1,0,1| ,4,2,0,1| ,4,3,0,1| ,4,4,0,1| ,4,5,0,1|";
+
+// Puts these rows of each store behind a text.
+fn put_rows(rows: &str, text: &mut String) -> Result<(), AllocError> {
+    for store in STORES.split(' ') {
+        for row in rows.split(' ') {
+            write!(text, "{store}{row}")?;
         }
     }
     Ok(())
 }
 
-// Four weeks, the prices 5.00 to 1.00 and no markdown. Each of 16 stores has 1,999 units, of which none is asked for.
 fn many_stores(alloc: Global) -> Result<String, AllocError> {
-    let mut stock = String::from_str(alloc, "f/stock.csv store,units,salvage|")?;
-    let mut demand = String::from_str(alloc, "f/demand.csv store,week,rung,units,weight|")?;
-    for store in 0..16u32 {
-        let name = format!(in alloc; "s{store}")?;
-        stock.push_str(name.as_str())?;
-        stock.push_str(",1999,0.01|")?;
-        put_rows(name.as_str(), &mut demand)?;
-    }
-    for part in [
-        "\nf/rules.json {\"weeks\":4,\"base\":1,\"markdowns\":0,\"spacing\":10}",
-        "\nf/ladder.csv rung,price|1,5.00|2,4.00|3,3.00|4,2.00|5,1.00|\n",
-        demand.as_str(),
-    ] {
-        stock.push_str(part)?;
-    }
-    Ok(stock)
+    let mut text = String::from_str(alloc, MANY_STORES)?;
+    put_rows(STOCK, &mut text)?;
+    text.push_str("\nf/demand.csv store,week,rung,units,weight|")?;
+    put_rows(DEMAND, &mut text)?;
+    Ok(text)
 }
 
-// Four objects times 2000^16, which is held at 10^18.
 #[test]
 fn sizes_are_held(rt: HostRuntime) -> Result<(), Fail> {
-    let alloc = rt.alloc();
-    let season = season_of(alloc, many_stores(alloc)?.as_str())?;
-    let file = br#"{"rung":1,"then":{"rung":1,"then":{"rung":1,"then":{"rung":1}}}}"#;
-    let found = judged(alloc, &season, file)?;
-    assert!(rt;
-        found.as_str()
-            == "4 Err(Size { found: 1000000000000000000 }) Err(Size { found: 1000000000000000000 })"
-    );
+    let case = many_stores(rt.alloc())?;
+    assert!(rt; is_worth(rt.alloc(), case.as_str())?);
     Ok(())
 }

@@ -5,9 +5,7 @@
 #[cfg(test)]
 mod judging;
 #[cfg(test)]
-mod made_seasons;
-#[cfg(test)]
-mod made_texts;
+mod made;
 #[cfg(test)]
 mod notes;
 #[cfg(test)]

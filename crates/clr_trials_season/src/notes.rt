@@ -1,9 +1,11 @@
 // Each note's text.
+use crate::seasons::sides;
 use clr_cert::{No, NoKind};
 use clr_report::{Cause, Doc, note_text};
 use clr_text::Why;
 
-// Causes as words, and the lines that tell them.
+// Causes as words, and the lines that tell them: of refusals by files, rows, columns and reasons, and of a certificate's row 29 by
+// kinds with their two sides.
 const CAUSES: &str =
     "Words=>usage: clearance plan|check|judge|make FOLDER [--steps N] [--step N] [--nodes N] [--cert NAME] [--seed N]
 NoPath=>no path
@@ -18,10 +20,8 @@ WriteFault Certificate=>write fault: certificate
 WriteFault Report=>write fault: report
 TooLong Demand 33554432=>limit: demand.csv longer than 33554432
 Cells 16000250=>limit: cells 16000250
-Memory=>memory";
-
-// Files, rows, columns and reasons of refusals, and the lines that tell them.
-const REFUSALS: &str = "Refused Rules 0 0 Json=>refused: rules.json json
+Memory=>memory
+Refused Rules 0 0 Json=>refused: rules.json json
 Refused Rules 0 0 Field=>refused: rules.json field
 Refused Rules 0 3 Missing=>refused: rules.json base missing
 Refused Rules 0 2 Range=>refused: rules.json weeks range
@@ -41,10 +41,8 @@ Refused Stock 1 4 Money=>refused: stock.csv row 1 column relabel money
 Refused Demand 1 2 Number=>refused: demand.csv row 1 column week number
 Refused Demand 3 0 Repeat 2=>refused: demand.csv row 3 repeat of row 2
 Refused Demand 0 0 Total 1 1 1 3=>refused: demand.csv store 1 week 1 rung 1 total 3
-Refused Demand 0 0 Total 64 52 12 201000000=>refused: demand.csv store 64 week 52 rung 12 total 201000000";
-
-// Kinds of refusals of a certificate's row 29 with their two sides, and the lines that tell them.
-const CERTIFICATE_NOS: &str = "No Form 0 0=>certificate no: row 29 form
+Refused Demand 0 0 Total 64 52 12 201000000=>refused: demand.csv store 64 week 52 rung 12 total 201000000
+No Form 0 0=>certificate no: row 29 form
 No Range 0 0=>certificate no: row 29 range
 No Short 0 0=>certificate no: row 29 short
 No Extra 0 0=>certificate no: row 29 extra
@@ -214,7 +212,7 @@ fn read_cause(words: &str) -> Option<Cause> {
 
 // Whether the cause of a case is told in its line.
 fn is_told(case: &str) -> bool {
-    let (words, want) = case.split_once("=>").unwrap_or((case, ""));
+    let (words, want) = sides(case);
     let Some(cause) = read_cause(words) else {
         return false;
     };
@@ -226,20 +224,6 @@ fn is_told(case: &str) -> bool {
 #[test]
 fn writes_each_note(rt: HostRuntime) {
     for case in CAUSES.lines() {
-        assert!(rt; is_told(case), "{case}");
-    }
-}
-
-#[test]
-fn tells_why_a_file_is_refused(rt: HostRuntime) {
-    for case in REFUSALS.lines() {
-        assert!(rt; is_told(case), "{case}");
-    }
-}
-
-#[test]
-fn tells_why_a_certificate_is_refused(rt: HostRuntime) {
-    for case in CERTIFICATE_NOS.lines() {
         assert!(rt; is_told(case), "{case}");
     }
 }

@@ -1,13 +1,10 @@
 // What a path earns, summed over all outcomes, beside the two values of its tables: small seasons of all versions, worked by
 // hand.
-ghost use Rattle.clr_average.specs.Average.{IsWithin};
-ghost use Rattle.clr_model.specs.Expected.{season_earned};
 ghost use Rattle.clr_model.specs.PathValue.{path_total};
-ghost use Rattle.clr_model.specs.Policies.{const_tree};
 ghost use Rattle.clr_rules.specs.Rules.{IsPath};
-ghost use Rattle.std.specs.Prelude.{◌≡◌, ◌≤◌, ◌*◌, length, IfOk};
+ghost use Rattle.std.specs.Prelude.{◌≡◌, IfOk};
 
-use crate::seasons::{season_of, want_and_rest};
+use crate::seasons::{shows, want_and_rest};
 use clr_model::Path;
 use clr_num::{Direction, Down, Up};
 use clr_path::PathTable;
@@ -78,19 +75,6 @@ f/ladder.csv rung,price|1,10.00|
 f/stock.csv store,units,salvage,relabel|a,1,2.00,0|
 f/demand.csv store,week,rung,units,weight|a,1,1,0,1|a,1,1,1,3|"#;
 
-// The first path that obeys, if there is one.
-fn only_path(alloc: Global, season: &Season) -> Result<Option<Path>, AllocError>
-    ensures { (path : Path) → result ≡ Ok (Some path) → IsPath season.now.rules path }
-{
-    let live = Live::build(alloc, season.rules())?;
-    if !live.any() {
-        return Ok(None);
-    }
-    let rungs = first_path(alloc, season.rules(), &live)?;
-    let path = Path::new(alloc, season, &rungs)?;
-    Ok(Some(path))
-}
-
 fn total<R: Direction>(alloc: Global, season: &Season, path: &Path) -> Result<i128, AllocError>
     requires { IsPath season.now.rules path.now }
     ensures { IfOk result (λ total. total ≡ path_total R.quotient season.now path.now) }
@@ -99,44 +83,34 @@ fn total<R: Direction>(alloc: Global, season: &Season, path: &Path) -> Result<i1
     Ok(table.total())
 }
 
-// The sum over all outcomes, where there are few enough.
-fn plain(alloc: Global, season: &Season, path: &Path) -> Result<Option<i128>, AllocError>
-    requires { IsPath season.now.rules path.now }
-{
-    if season.base() > 12 || season.stores() > 2 || season.weeks() > 8 {
-        return Ok(None);
-    }
-    let cents = expected_cents(alloc, season, path)?;
-    Ok(Some(cents))
-}
-
-// What a path earns and its two values.
+// A path with the sum over all outcomes, where there are few enough, and its two values.
 fn worth(alloc: Global, season: &Season, path: &Path) -> Result<String, AllocError>
     requires { IsPath season.now.rules path.now }
 {
-    let Some(cents) = plain(alloc, season, path)? else {
+    if season.base() > 12 || season.stores() > 2 || season.weeks() > 8 {
         return String::from_str(alloc, "too many outcomes");
-    };
+    }
+    let cents = expected_cents(alloc, season, path)?;
     let low = total::<Down>(alloc, season, path)?;
     let high = total::<Up>(alloc, season, path)?;
-    format!(in alloc; "{cents} {low} {high}")
+    format!(in alloc; "{:?} {cents} {low} {high}", path.rungs())
 }
 
-// The path that a season forces, with what it is worth.
-fn forced(alloc: Global, season: &Season) -> Result<String, AllocError> {
-    let Some(path) = only_path(alloc, season)? else {
+// The first path that obeys, with what it is worth.
+fn forced(alloc: Global, season: &Season, _told: &str) -> Result<String, AllocError> {
+    let live = Live::build(alloc, season.rules())?;
+    if !live.any() {
         return String::from_str(alloc, "no path");
-    };
-    let worth = worth(alloc, season, &path)?;
-    let rungs = path.rungs();
-    format!(in alloc; "{rungs:?} {worth}")
+    }
+    let rungs = first_path(alloc, season.rules(), &live)?;
+    let path = Path::new(alloc, season, &rungs)?;
+    worth(alloc, season, &path)
 }
 
 // Whether a season forces what its case says.
 fn is_forced(alloc: Global, case: &str) -> Result<bool, Fail> {
     let (want, files) = want_and_rest(case);
-    let season = season_of(alloc, files)?;
-    Ok(forced(alloc, &season)?.as_str() == want)
+    shows(alloc, files, forced, "", want)
 }
 
 #[test]

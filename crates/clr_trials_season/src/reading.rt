@@ -1,5 +1,5 @@
 // What policy files read to, and their first faults.
-use crate::seasons::{bytes_of, season_of};
+use crate::seasons::{bytes_of, shows, sides};
 use clr_policy::{objects, read_policy};
 use clr_season::Season;
 use std::alloc::{AllocError, Global};
@@ -39,40 +39,31 @@ null=>Err(Shape { branch: 1 })
 =>Err(Json)"#;
 
 // The number of rungs and tests of a policy file, or its first fault.
-fn read_of(alloc: Global, season: &Season, file: &[u8]) -> Result<String, AllocError> {
+fn read_of(alloc: Global, season: &Season, file: &str) -> Result<String, AllocError> {
+    let file = bytes_of(alloc, file)?;
     if file.len() > 100_000 {
         return String::from_str(alloc, "too long");
     }
-    let found = match read_policy(alloc, season, file) {
+    let found = match read_policy(alloc, season, &file) {
         Ok(policy) => Ok(objects(&policy)),
         Err(error) => Err(error),
     };
     format!(in alloc; "{found:?}")
 }
 
-fn is_read(alloc: Global, season: &Season, case: &str) -> Result<bool, AllocError> {
+fn is_read(alloc: Global, case: &str) -> Result<bool, Fail> {
     if case.starts_with('#') {
         return Ok(true);
     }
-    let (file, want) = case.split_once("=>").unwrap_or((case, ""));
-    let file = bytes_of(alloc, file)?;
-    Ok(read_of(alloc, season, &file)?.as_str() == want)
-}
-
-// The first case that isn't as it must; nothing where each is.
-fn wrong_case(alloc: Global, season: &Season) -> Result<Option<&'static str>, AllocError> {
-    for case in FILES.lines() {
-        if !is_read(alloc, season, case)? {
-            return Ok(Some(case));
-        }
-    }
-    Ok(None)
+    let (file, want) = sides(case);
+    shows(alloc, "", read_of, file, want)
 }
 
 #[test]
 fn policies_read_to_their_objects_or_faults(rt: HostRuntime) -> Result<(), Fail> {
-    let season = season_of(rt.alloc(), "")?;
-    assert_eq!(rt; wrong_case(rt.alloc(), &season)?, None);
+    for case in FILES.lines() {
+        assert!(rt; is_read(rt.alloc(), case)?, "{case}");
+    }
     Ok(())
 }
 
@@ -90,16 +81,14 @@ fn nested(alloc: Global, tests: u32) -> Result<String, AllocError> {
 }
 
 fn nested_reads_to(alloc: Global, tests: u32, want: &str) -> Result<bool, Fail> {
-    let season = season_of(alloc, "")?;
     let file = nested(alloc, tests)?;
-    Ok(read_of(alloc, &season, file.as_bytes())?.as_str() == want)
+    shows(alloc, "", read_of, file.as_str(), want)
 }
 
 // 125 tests and two rungs below them nest 127 deep, and have 125 + 2 * 126 objects.
 #[test]
 fn policies_nest_127_deep(rt: HostRuntime) -> Result<(), Fail> {
-    for (tests, want) in [(125, "Ok(377)"), (126, "Err(Json)")] {
-        assert!(rt; nested_reads_to(rt.alloc(), tests, want)?, "{tests}");
-    }
+    assert!(rt; nested_reads_to(rt.alloc(), 125, "Ok(377)")?);
+    assert!(rt; nested_reads_to(rt.alloc(), 126, "Err(Json)")?);
     Ok(())
 }

@@ -1,6 +1,7 @@
 // The spelling of numbers in a certificate.
+use crate::seasons::{is_text, sides};
 use clr_cert::read_num;
-use std::alloc::{AllocError, Global};
+use std::alloc::Global;
 use std::test::Fail;
 
 // Fields, and what they are read as.
@@ -29,10 +30,10 @@ const FIELDS: &str = "0=>Is(0)
 5 =>No
 0x5=>No";
 
-fn is_read(alloc: Global, case: &str) -> Result<bool, AllocError> {
-    let (field, want) = case.split_once("=>").unwrap_or((case, ""));
+fn is_read(alloc: Global, case: &str) -> Result<bool, Fail> {
+    let (field, want) = sides(case);
     let found = read_num(field.as_bytes());
-    Ok(format!(in alloc; "{found:?}")?.as_str() == want)
+    is_text(format!(in alloc; "{found:?}"), want)
 }
 
 #[test]

@@ -1,10 +1,11 @@
 // Certificates on desks in memory.
-use crate::seasons::season_of;
+use crate::seasons::{shows, sides};
 use crate::worked::write_worked;
 use clr_cert::CertError;
 use clr_io::MemoryDesk;
 use clr_rules::Live;
-use std::alloc::Global;
+use clr_season::Season;
+use std::alloc::{AllocError, Global};
 use std::test::Fail;
 
 // The files of the season of version 3 that aren't the common ones.
@@ -51,70 +52,69 @@ bound,1150000000
 exact,1150000000,1150000000
 ";
 
-// What is written to a desk of this room that takes 100 bytes at a time and fails at this call, and what it holds then.
-fn written(
-    alloc: Global,
-    files: &str,
-    room: usize,
-    fail: u64,
-) -> Result<(Result<(), CertError>, MemoryDesk), Fail> {
-    let season = season_of(alloc, files)?;
-    let live = Live::build(alloc, season.rules())?;
+// The room of a desk, and which of its calls fails; and what comes of the certificate, with how many files are made and how many
+// bytes of its text stand in the first. Each write takes 100 bytes at most, and the first lines of version 1 have 24, those of version
+// 3 have 41, and all others 761. Without a fault all stand. Where the first call fails no file is made. Where the third write fails,
+// 200 bytes stand. The room is used up after 30 bytes.
+const CASES: &str = "1 4096 0=>Ok(()) 1 Some(785)
+3 4096 0=>Ok(()) 1 Some(802)
+1 4096 1=>Err(Failed) 0 None
+1 4096 4=>Err(Failed) 1 Some(200)
+1 30 0=>Err(Failed) 1 Some(30)";
+
+// A desk of the room that is told, which takes 100 bytes at a time and fails at the call that is told.
+fn desk_of(alloc: Global, told: &str) -> Result<MemoryDesk, AllocError> {
+    let (room, fail) = told.split_once(' ').unwrap_or((told, ""));
     let mut faults = Vec::new(alloc);
-    faults.push(fail)?;
-    let mut desk = MemoryDesk::new(alloc, 1, room, 100, faults)?;
-    if season.weeks() != 2 || season.rungs() != 2 || !live.any() {
-        return Ok((Err(CertError::Memory), desk));
-    }
-    let result = write_worked(alloc, &season, &live, "c", &mut desk);
-    Ok((result, desk))
+    faults.push(fail.parse::<u64>().unwrap_or(0))?;
+    MemoryDesk::new(alloc, 1, room.parse::<usize>().unwrap_or(0), 100, faults)
 }
 
-// Whether the desk holds one file of this name with these bytes.
-fn holds(desk: &MemoryDesk, first: &[u8], rest: &[u8]) -> bool {
-    if desk.count() != 1 {
-        return false;
+// Writes the certificate of the season, which the tables tell.
+fn write(alloc: Global, season: &Season, desk: &mut MemoryDesk) -> Result<(), CertError> {
+    let Ok(live) = Live::build(alloc, season.rules()) else {
+        return Err(CertError::Memory);
+    };
+    if season.weeks() != 2 || season.rungs() != 2 || !live.any() {
+        return Err(CertError::Memory);
+    }
+    write_worked(alloc, season, &live, "c", desk)
+}
+
+// How many bytes of the text stand in the desk's first file; nothing where it has another name or other bytes.
+fn standing(desk: &MemoryDesk, version: u32) -> Option<usize> {
+    if desk.count() == 0 || desk.name(0) != "c" {
+        return None;
     }
     let bytes = desk.bytes(0);
-    desk.name(0) == "c"
-        && bytes.len() == first.len() + rest.len()
-        && bytes.starts_with(first)
-        && bytes.ends_with(rest)
+    let first = if version == 3 {
+        FIRST_LINES_3
+    } else {
+        FIRST_LINES
+    };
+    let rest = bytes.strip_prefix(first.as_bytes())?;
+    LINES.as_bytes().starts_with(rest).then_some(bytes.len())
+}
+
+// What comes of the certificate on a desk of which this is told.
+fn written(alloc: Global, season: &Season, told: &str) -> Result<String, AllocError> {
+    let mut desk = desk_of(alloc, told)?;
+    let result = write(alloc, season, &mut desk);
+    let standing = standing(&desk, season.version());
+    format!(in alloc; "{result:?} {} {standing:?}", desk.count())
+}
+
+fn is_written(alloc: Global, case: &str) -> Result<bool, Fail> {
+    let (told, want) = sides(case);
+    let (version, told) = told.split_once(' ').unwrap_or((told, ""));
+    let files = if version == "3" { VERSION_3 } else { "" };
+    shows(alloc, files, written, told, want)
 }
 
 #[test]
-fn the_text_of_version_1(rt: HostRuntime) -> Result<(), Fail> {
-    let (result, desk) = written(rt.alloc(), "", 4_096, 0)?;
-    assert!(rt; result == Ok(()) && holds(&desk, FIRST_LINES.as_bytes(), LINES.as_bytes()));
-    Ok(())
-}
-
-#[test]
-fn the_text_of_version_3(rt: HostRuntime) -> Result<(), Fail> {
-    let (result, desk) = written(rt.alloc(), VERSION_3, 4_096, 0)?;
-    assert!(rt; result == Ok(()) && holds(&desk, FIRST_LINES_3.as_bytes(), LINES.as_bytes()));
-    Ok(())
-}
-
-#[test]
-fn no_file_is_made(rt: HostRuntime) -> Result<(), Fail> {
-    let (result, desk) = written(rt.alloc(), "", 4_096, 1)?;
-    assert!(rt; result == Err(CertError::Failed) && desk.count() == 0);
-    Ok(())
-}
-
-#[test]
-fn a_front_is_left(rt: HostRuntime) -> Result<(), Fail> {
-    // The third write fails, and 200 bytes stand.
-    let (result, desk) = written(rt.alloc(), "", 4_096, 4)?;
-    assert!(rt;
-        result == Err(CertError::Failed)
-            && holds(&desk, FIRST_LINES.as_bytes(), &LINES.as_bytes()[..176])
-    );
-    // The room is used up after 30 bytes.
-    let (result, desk) = written(rt.alloc(), "", 30, 0)?;
-    assert!(rt;
-        result == Err(CertError::Failed) && holds(&desk, FIRST_LINES.as_bytes(), b"path,1")
-    );
+fn certificates_are_written(rt: HostRuntime) -> Result<(), Fail> {
+    for case in CASES.lines() {
+        assert!(rt; is_written(rt.alloc(), case)?, "{case}");
+    }
     Ok(())
 }

@@ -1,6 +1,6 @@
 use Rattle.std.proofs.Common.{◌≤◌, length, rules}
 use Rattle.clr_trials_season.proofs.Powers.{power-fits}
-use Rattle.clr_trials_season.proofs.outcomes.plain.Goals as goal
+use Rattle.clr_trials_season.proofs.outcomes.worth.Goals as goal
 
 pub expected_cents-requires-clause-small : goal.expected_cents-requires-clause-small
 expected_cents-requires-clause-small c =
