@@ -1,12 +1,14 @@
 // What the worked cases share: seasons and cases as texts, and what a run answers to them.
 //
 // A season is a text with a file a line: its name, a space, and its bytes, in which `|` stands for a line feed, `^` for a carriage
-// return, `~` for a tab, `@` for a byte order mark, and `%` for a byte 0xFF.
+// return, `~` for a tab, `@` for a byte order mark, and `%` for a byte 0xFF. Where `<# 1 24 ROWS>` stands, the rows stand once for each
+// number from 1 to 24, with the number in the place of `#`; so with other signs and numbers, and one such within another.
 //
 // A case is a text of such lines, whose files stand in the place of the season's. A line `- NAME` takes a file away, a line `> WORDS`
 // tells the words of the command, which are `plan f` where there is none, and a line `# ..` is a remark. The last line `= NUMBER ..`
 // tells the exit status, and behind it the report in the signs above, or for a status other than 0 the note. Of a report that
-// begins with `..` the front is left out. In a table the cases are parted by empty lines.
+// begins with `..` the front is left out. In a table the cases are parted by empty lines. Where a table has several seasons, each stands
+// before its cases, and two empty lines stand before a season.
 use crate::ending::Status;
 use crate::program::run;
 use clr_io::{Desk, FileDesk, FileShelf, MemoryDesk, MemoryShelf, MemorySink, Shelf};
@@ -59,68 +61,51 @@ pub(crate) fn bytes_of(alloc: Global, text: &str) -> Result<Vec<u8>, AllocError>
     Ok(bytes)
 }
 
-// Three texts, one behind the other.
-pub(crate) fn joined(
-    alloc: Global,
-    front: &str,
-    between: &str,
-    back: &str,
-) -> Result<String, AllocError> {
-    let mut text = String::from_str(alloc, front)?;
-    text.push_str(between)?;
-    text.push_str(back)?;
-    Ok(text)
-}
-
-// Puts the bytes behind a text, with a number in the place of a sign.
-fn put_numbered(
-    text: &mut Vec<u8>,
-    bytes: &[u8],
-    sign: u8,
-    number: &[u8],
-) -> Result<(), AllocError> {
-    for byte in bytes {
-        if *byte == sign {
-            text.extend_from_slice(number)?;
-        } else {
-            text.push(*byte)?;
-        }
+// Puts the rows of a repeat behind a text.
+fn put_repeat(alloc: Global, text: &mut String, repeat: &str) -> Result<(), AllocError> {
+    let (sign, numbers) = repeat.split_once(' ').unwrap_or((repeat, ""));
+    let (first, numbers) = numbers.split_once(' ').unwrap_or((numbers, ""));
+    let (last, rows) = numbers.split_once(' ').unwrap_or((numbers, ""));
+    for number in number_of(first)..=number_of(last) {
+        let number = format!(in alloc; "{number}")?;
+        text.push_str(rows.replace(alloc, sign, number.as_str())?.as_str())?;
     }
     Ok(())
 }
 
-// The bytes once for each number from `first` to `last`, with the number in the place of a sign.
-pub(crate) fn numbered(
-    alloc: Global,
-    bytes: &[u8],
-    sign: u8,
-    first: u32,
-    last: u32,
-) -> Result<Vec<u8>, AllocError> {
-    let mut text = Vec::new(alloc);
-    for number in first..=last {
-        let number = format!(in alloc; "{number}")?;
-        put_numbered(&mut text, bytes, sign, number.as_bytes())?;
-    }
-    Ok(text)
+// The text with the rows of its last repeat, in which no other stands.
+fn repeated(alloc: Global, text: &str) -> Result<String, AllocError> {
+    let (front, rest) = text.rsplit_once('<').unwrap_or((text, ""));
+    let (repeat, back) = rest.split_once('>').unwrap_or(("", rest));
+    let mut whole = String::from_str(alloc, front)?;
+    put_repeat(alloc, &mut whole, repeat)?;
+    whole.push_str(back)?;
+    Ok(whole)
 }
 
-// The text of demand.csv with these rows for each store from `first` to `last`, each week and each rung: `#` stands for the store's
-// number, `$` for the week's and `&` for the rung's.
-pub(crate) fn demand_of(
-    alloc: Global,
-    rows: &[u8],
-    first: u32,
-    last: u32,
-    weeks: u32,
-    rungs: u32,
-) -> Result<Vec<u8>, AllocError> {
-    let of_rungs = numbered(alloc, rows, b'&', 1, rungs)?;
-    let of_weeks = numbered(alloc, &of_rungs, b'$', 1, weeks)?;
-    let of_stores = numbered(alloc, &of_weeks, b'#', first, last)?;
-    let mut text = b"store,week,rung,units,weight\n".to_vec(alloc)?;
-    text.extend_from_slice(&of_stores)?;
-    Ok(text)
+// The bytes that a text with repeats stands for.
+fn bytes_repeated(alloc: Global, text: &str) -> Result<Vec<u8>, AllocError> {
+    let mut whole = String::from_str(alloc, text)?;
+    for sign in text.as_bytes() {
+        if *sign == b'<' {
+            whole = repeated(alloc, whole.as_str())?;
+        }
+    }
+    bytes_of(alloc, whole.as_str())
+}
+
+// The number that a text tells.
+pub(crate) fn number_of(text: &str) -> u64 {
+    text.parse::<u64>().unwrap_or(0)
+}
+
+// The numbers of a text with blanks between them, and zeros.
+pub(crate) fn numbers_of(text: &str) -> [usize; 4] {
+    let mut numbers = [0; 4];
+    for (number, word) in numbers.iter_mut().zip(text.split(' ')) {
+        *number = word.parse::<usize>().unwrap_or(0);
+    }
+    numbers
 }
 
 // ---- files
@@ -136,8 +121,7 @@ pub(crate) fn put_file(
     name: &str,
     bytes: Vec<u8>,
 ) -> Result<(), AllocError> {
-    let path = joined(alloc, folder, "/", name)?;
-    files.push((path, bytes))?;
+    files.push((format!(in alloc; "{folder}/{name}")?, bytes))?;
     Ok(())
 }
 
@@ -146,7 +130,7 @@ fn file_of(line: &str) -> (&str, &str) {
     line.split_once(' ').unwrap_or((line, ""))
 }
 
-// A line is a file, and none of the other lines of a case.
+// A line is a file, and none of the other lines of a case or a season.
 fn is_file(line: &str) -> bool {
     !matches!(
         line.as_bytes().first(),
@@ -176,7 +160,7 @@ fn put_files(
     for line in lines.lines() {
         let (name, text) = file_of(line);
         if is_file(line) && !is_replaced(case, name) {
-            put_file(alloc, files, folder, name, bytes_of(alloc, text)?)?;
+            put_file(alloc, files, folder, name, bytes_repeated(alloc, text)?)?;
         }
     }
     Ok(())
@@ -267,9 +251,16 @@ pub(crate) struct Failing {
 
 pub(crate) const NONE_FAILS: Failing = Failing { report: 0, note: 0 };
 
-// A list of numbers.
-pub(crate) fn list_of(alloc: Global, numbers: &[u64]) -> Result<Vec<u64>, AllocError> {
-    numbers.to_vec(alloc)
+// A desk for so many files, with this room, that takes so many bytes a call, and whose call of a number fails.
+pub(crate) fn desk_of(
+    alloc: Global,
+    files: usize,
+    room: usize,
+    piece: usize,
+    fail: usize,
+) -> Result<MemoryDesk, AllocError> {
+    let fails = [fail as u64].to_vec(alloc)?;
+    MemoryDesk::new(alloc, files, room, piece.max(1), fails)
 }
 
 // The words of a text.
@@ -281,7 +272,19 @@ fn words_of(alloc: Global, text: &str) -> Result<Vec<String>, AllocError> {
     Ok(words)
 }
 
-// What the words ask of a shelf and a desk. The contract of `run` is long, so the tests call it here alone.
+// The contract of `run` is long, so the tests call it here alone.
+fn ran<H: Shelf, D: Desk>(
+    alloc: Global,
+    words: &[String],
+    shelf: &mut H,
+    desk: &mut D,
+    out: &mut MemorySink,
+    note: &mut MemorySink,
+) -> Status {
+    run(alloc, words, shelf, desk, out, note)
+}
+
+// What the words ask of a shelf and a desk.
 pub(crate) fn run_over<H: Shelf, D: Desk>(
     alloc: Global,
     words: &str,
@@ -290,9 +293,9 @@ pub(crate) fn run_over<H: Shelf, D: Desk>(
     failing: Failing,
 ) -> Result<Answer, AllocError> {
     let words = words_of(alloc, words)?;
-    let mut out = MemorySink::new(alloc, 4096, 16, list_of(alloc, &[failing.report])?)?;
-    let mut note = MemorySink::new(alloc, 256, 7, list_of(alloc, &[failing.note])?)?;
-    let status = run(alloc, &words, shelf, desk, &mut out, &mut note);
+    let mut out = MemorySink::new(alloc, 4096, 16, [failing.report].to_vec(alloc)?)?;
+    let mut note = MemorySink::new(alloc, 256, 7, [failing.note].to_vec(alloc)?)?;
+    let status = ran(alloc, &words, shelf, desk, &mut out, &mut note);
     Ok(Answer { status, out, note })
 }
 
@@ -315,8 +318,20 @@ pub(crate) fn asked_of(
     piece: usize,
     fail: u64,
 ) -> Result<Answer, AllocError> {
-    let mut shelf = MemoryShelf::new(files, piece.max(1), list_of(alloc, &[fail])?);
+    let mut shelf = MemoryShelf::new(files, piece.max(1), [fail].to_vec(alloc)?);
     run_on(alloc, words, &mut shelf, NONE_FAILS)
+}
+
+// This is told of what the words ask of such files.
+pub(crate) fn is_told(
+    alloc: Global,
+    words: &str,
+    files: Held,
+    piece: usize,
+    fail: u64,
+    told: &str,
+) -> Result<bool, AllocError> {
+    asked_of(alloc, words, files, piece, fail)?.says(alloc, told)
 }
 
 // The last line of a text that begins with this sign, without it.
@@ -335,21 +350,25 @@ fn told_of(case: &str) -> &str {
     line_of(case, "= ").unwrap_or("")
 }
 
-// The words of a case are answered over the files in memory as it tells.
-pub(crate) fn is_answered_among(
-    alloc: Global,
-    files: Held,
-    case: &str,
-) -> Result<bool, AllocError> {
+// The case over a season in memory is answered as it tells.
+fn is_answered(alloc: Global, season: &str, case: &str) -> Result<bool, AllocError> {
+    let files = held(alloc, "f", season, case)?;
     let words = line_of(case, ">").unwrap_or("plan f");
-    let answer = asked_of(alloc, words, files, 16, 0)?;
-    answer.says(alloc, told_of(case))
+    is_told(alloc, words, files, 16, 0, told_of(case))
 }
 
-// The case over a season in memory is answered as it tells.
-pub(crate) fn is_answered(alloc: Global, season: &str, case: &str) -> Result<bool, AllocError> {
-    let files = held(alloc, "f", season, case)?;
-    is_answered_among(alloc, files, case)
+// The first case of a table over a season in memory that isn't answered as it tells.
+pub(crate) fn unanswered<'a>(
+    alloc: Global,
+    season: &str,
+    table: &'a str,
+) -> Result<Option<&'a str>, AllocError> {
+    for case in table.split("\n\n") {
+        if !is_answered(alloc, season, case)? {
+            return Ok(Some(case));
+        }
+    }
+    Ok(None)
 }
 
 // What the words ask of real folders.
@@ -371,29 +390,27 @@ pub(crate) fn write_files(rt: &impl RealFiles, files: &[(String, Vec<u8>)]) -> R
     Ok(())
 }
 
-// What the words ask of real folders, over a desk that takes no file.
-pub(crate) fn read_on_disk(
-    rt: &impl RealFiles,
-    alloc: Global,
-    words: &str,
-) -> Result<Answer, AllocError> {
-    let mut shelf = FileShelf::new(rt);
-    run_on(alloc, words, &mut shelf, NONE_FAILS)
-}
-
-// The plan of a real folder is answered as it is told.
+// This is told of what the words ask of real folders.
 pub(crate) fn is_told_on_disk(
     rt: &impl RealFiles,
     alloc: Global,
-    folder: &str,
+    words: &str,
     told: &str,
 ) -> Result<bool, AllocError> {
-    let words = joined(alloc, "plan", " ", folder)?;
-    let answer = read_on_disk(rt, alloc, words.as_str())?;
-    answer.says(alloc, told)
+    asked_on_disk(rt, alloc, words)?.says(alloc, told)
 }
 
-// The plan of the case's files in a real folder, which is there, is answered as the case tells.
+// The words of a line are answered in real folders as it tells behind `=`.
+pub(crate) fn is_line_told(
+    rt: &impl RealFiles,
+    alloc: Global,
+    line: &str,
+) -> Result<bool, AllocError> {
+    let (words, told) = line.split_once('=').unwrap_or((line, ""));
+    is_told_on_disk(rt, alloc, words, told)
+}
+
+// The plan of the case's files over a season in a real folder, which is there, is answered as the case tells.
 pub(crate) fn is_answered_on_disk(
     rt: &impl RealFiles,
     alloc: Global,
@@ -402,19 +419,34 @@ pub(crate) fn is_answered_on_disk(
     case: &str,
 ) -> Result<bool, Fail> {
     write_files(rt, &held(alloc, folder, season, case)?)?;
-    let is_told = is_told_on_disk(rt, alloc, folder, told_of(case))?;
-    Ok(is_told)
+    let words = format!(in alloc; "plan {folder}")?;
+    Ok(is_told_on_disk(rt, alloc, words.as_str(), told_of(case))?)
 }
 
-// The case is answered as it tells over the memory and over a real folder, which is there.
-pub(crate) fn is_answered_twice(
+// The case over the smallest season is answered as it tells over the memory and over a real folder, which is there.
+fn is_answered_twice(
     rt: &impl RealFiles,
     alloc: Global,
     folder: &str,
-    season: &str,
     case: &str,
 ) -> Result<bool, Fail> {
-    let in_memory = is_answered(alloc, season, case)?;
-    let on_disk = is_answered_on_disk(rt, alloc, folder, season, case)?;
+    let in_memory = is_answered(alloc, SMALLEST, case)?;
+    let on_disk = is_answered_on_disk(rt, alloc, folder, SMALLEST, case)?;
     Ok(in_memory && on_disk)
+}
+
+// The first case of a table that isn't answered so twice, in a new folder.
+pub(crate) fn unanswered_twice<'a>(
+    rt: &impl RealFiles,
+    alloc: Global,
+    folder: &str,
+    table: &'a str,
+) -> Result<Option<&'a str>, Fail> {
+    fs::create_dir(rt, folder)?;
+    for case in table.split("\n\n") {
+        if !is_answered_twice(rt, alloc, folder, case)? {
+            return Ok(Some(case));
+        }
+    }
+    Ok(None)
 }

@@ -1,7 +1,7 @@
 // Certificates that a run writes to a desk.
 use crate::cases::{
-    Answer, Failing, Held, NONE_FAILS, TWO_WEEKS, asked_on_disk, bytes_of, held, list_of, run_over,
-    write_files,
+    Answer, Failing, Held, NONE_FAILS, TWO_WEEKS, bytes_of, desk_of, held, is_line_told, line_of,
+    numbers_of, run_over, write_files,
 };
 use clr_io::{MemoryDesk, MemoryShelf};
 use std::alloc::{AllocError, Global};
@@ -9,71 +9,43 @@ use std::fs;
 use std::rt::Files as RealFiles;
 use std::test::Fail;
 
-// The lines of the worked certificate behind its first.
-pub(crate) const LINES: &str = "path,1,2
-m,1,1,0
-m,1,2,0
-m,2,1,0
-m,2,2,0
-l,2,1,0,0,0
-h,2,1,0,0,0
-v,2,1,1,0,1,0,0,0
-v,2,1,2,1,1,0,0,0
-j,2,1,0,1,0,0,0,0
-j,2,1,0,1,1,0,0,0
-j,2,1,0,1,2,0,0,0
-j,2,2,1,1,0,0,0,0
-j,2,2,1,1,1,0,0,0
-j,2,2,1,1,2,0,0,0
-l,1,1,0,400000000,800000000
-h,1,1,0,400000000,800000000
-v,1,1,1,0,1,0,500000000,800000000
-v,1,1,2,1,1,0,400000000,800000000
-j,1,1,0,1,0,1,0,0
-j,1,1,0,1,1,1,500000000,500000000
-j,1,1,0,1,2,2,800000000,800000000
-j,1,2,1,1,0,2,0,0
-j,1,2,1,1,1,2,400000000,400000000
-j,1,2,1,1,2,2,800000000,800000000
-l,0,1,0,700000000,1100000000
-h,0,1,0,700000000,1100000000
-v,0,1,1,0,1,0,750000000,1150000000
-j,0,1,0,1,0,1,0,0
-j,0,1,0,1,1,1,750000000,750000000
-j,0,1,0,1,2,1,1150000000,1150000000
-revenue,1100000000,1100000000
-bound,1150000000
-exact,1150000000,1150000000
-";
+// The worked certificate.
+pub(crate) const CERTIFICATE: &str =
+    "certificate.csv clearance certificate 1|path,1,2|m,1,1,0|m,1,2,0|m,2,1,0|m,2,2,0|l,2,1,0,0,0|h,2,1,0,0,0|v,2,1,1,0,1,0,0,0|v,2,1,2,1,1,0,0,0|j,2,1,0,1,0,0,0,0|j,2,1,0,1,1,0,0,0|j,2,1,0,1,2,0,0,0|j,2,2,1,1,0,0,0,0|j,2,2,1,1,1,0,0,0|j,2,2,1,1,2,0,0,0|l,1,1,0,400000000,800000000|h,1,1,0,400000000,800000000|v,1,1,1,0,1,0,500000000,800000000|v,1,1,2,1,1,0,400000000,800000000|j,1,1,0,1,0,1,0,0|j,1,1,0,1,1,1,500000000,500000000|j,1,1,0,1,2,2,800000000,800000000|j,1,2,1,1,0,2,0,0|j,1,2,1,1,1,2,400000000,400000000|j,1,2,1,1,2,2,800000000,800000000|l,0,1,0,700000000,1100000000|h,0,1,0,700000000,1100000000|v,0,1,1,0,1,0,750000000,1150000000|j,0,1,0,1,0,1,0,0|j,0,1,0,1,1,1,750000000,750000000|j,0,1,0,1,2,1,1150000000,1150000000|revenue,1100000000,1100000000|bound,1150000000|exact,1150000000,1150000000|";
 
-pub(crate) const HEAD: &str = "clearance certificate 1|";
+// Its first line, and those that stand in its place in version 3.
+const HEAD: &str = "clearance certificate 1";
+
+const LONG_HEAD: &str = "clearance certificate 2|lengths,36,1,2,2";
 
 const REPORT: &str =
     "season 1 stores 2 weeks 2 rungs base 2|path 1 2|prices 10.00 4.00|revenue 11.00000000 11.00000000|best yes|bound 11.50000000 step 0|gap 0.50000000|exact 11.50000000 11.50000000 first 1|";
 
-// The same season in version 3.
-pub(crate) const VERSION_3: &str = r#"rules.json {"version":3,"weeks":2,"base":2}
-calendar.csv
-ladder.csv rung,price|1,10.00|2,4.00|
-stock.csv store,units,salvage,relabel|a,2,0,0|
-demand.csv store,week,rung,units,weight|a,1,1,0,1|a,1,1,1,1|a,2,1,0,1|a,2,1,1,1|a,1,2,0,2|a,2,2,2,2|"#;
+// The files of the same season in version 3.
+const VERSION_3: &str = r#"rules.json {"version":3,"weeks":2,"base":2}
+stock.csv store,units,salvage,relabel|a,2,0,0|"#;
 
-// The lines that stand before the others in version 3.
-pub(crate) const LONG_HEAD: &str = "clearance certificate 2|lengths,36,1,2,2|";
-
-// The text of the certificate behind these first lines.
-pub(crate) fn text_behind(alloc: Global, first: &str) -> Result<Vec<u8>, AllocError> {
-    let mut text = bytes_of(alloc, first)?;
-    text.extend_from_slice(LINES.as_bytes())?;
-    Ok(text)
+// The files that differ in the season of a certificate with these first lines.
+pub(crate) fn files_behind(head: &str) -> &'static str {
+    if head.starts_with("clearance certificate 2") {
+        VERSION_3
+    } else {
+        ""
+    }
 }
 
-// One file `c` stands on the desk, with a front of so many of these bytes.
-fn has_front(desk: &MemoryDesk, bytes: &[u8], count: usize) -> bool {
-    desk.count() == 1
-        && desk.name(0) == "c"
-        && desk.bytes(0).len() == count
-        && bytes.starts_with(desk.bytes(0))
+// The text of the certificate with these first lines.
+fn text_behind(alloc: Global, head: &str) -> Result<Vec<u8>, AllocError> {
+    let line = CERTIFICATE.replace(alloc, HEAD, head)?;
+    bytes_of(
+        alloc,
+        line_of(line.as_str(), "certificate.csv ").unwrap_or(""),
+    )
+}
+
+// So many files stand on the desk: none, or one file `c` with a front of these bytes.
+fn has_front(desk: &MemoryDesk, count: usize, front: &[u8]) -> bool {
+    desk.count() == count && (count != 1 || desk.name(0) == "c" && desk.bytes(0) == front)
 }
 
 // The plan with a certificate `c`, on this desk and with these faults of the sinks.
@@ -87,72 +59,56 @@ pub(crate) fn certify(
     run_over(alloc, "plan f --cert c", &mut shelf, desk, failing)
 }
 
-// Over a desk that takes so many bytes a call, the report of a season is written, and its certificate with these first lines.
-fn is_certified(alloc: Global, season: &str, head: &str, piece: usize) -> Result<bool, AllocError> {
-    let mut desk = MemoryDesk::new(alloc, 1, 4096, piece.max(1), Vec::new(alloc))?;
-    let files = held(alloc, "f", season, "")?;
-    let answer = certify(alloc, files, &mut desk, NONE_FAILS)?;
-    let report = bytes_of(alloc, REPORT)?;
-    let text = text_behind(alloc, head)?;
-    Ok(answer.reports(&report) && has_front(&desk, &text, text.len()))
-}
-
-// A season, the first lines of its certificate, and how many bytes the desk takes a call.
-const CERTIFIED: [(&str, &str, usize); 3] = [
-    (TWO_WEEKS, HEAD, 65_536),
-    (TWO_WEEKS, HEAD, 7),
-    (VERSION_3, LONG_HEAD, 65_536),
-];
-
-#[test]
-fn certificates_are_written(rt: HostRuntime) -> Result<(), Fail> {
-    for (season, head, piece) in CERTIFIED {
-        assert!(rt; is_certified(rt.alloc(), season, head, piece)?, "{piece}");
-    }
-    Ok(())
-}
-
-// The room of a desk, its call that fails, and the files that stand then and their bytes: the first call makes the file, and the
-// room ends in the midst of the text.
-const DESKS: [(usize, u64, usize, usize); 2] = [(4096, 1, 0, 0), (100, 0, 1, 100)];
-
-// On this desk the certificate fails, and its fault is noted.
-fn fails(
+// This is told of the plan on a desk, with a certificate that has these first lines.
+fn is_told(
     alloc: Global,
-    room: usize,
-    fail: u64,
-    count: usize,
-    length: usize,
+    desk: &mut MemoryDesk,
+    head: &str,
+    told: &str,
 ) -> Result<bool, AllocError> {
-    let mut desk = MemoryDesk::new(alloc, 1, room, 65_536, list_of(alloc, &[fail])?)?;
-    let files = held(alloc, "f", TWO_WEEKS, "")?;
-    let answer = certify(alloc, files, &mut desk, NONE_FAILS)?;
-    let is_told = answer.says(alloc, "5 write fault: certificate")?;
-    let text = text_behind(alloc, HEAD)?;
-    Ok(is_told && desk.count() == count && (count == 0 || has_front(&desk, &text, length)))
+    let files = held(alloc, "f", TWO_WEEKS, files_behind(head))?;
+    certify(alloc, files, desk, NONE_FAILS)?.says(alloc, told)
 }
 
-#[test]
-fn desks_fail(rt: HostRuntime) -> Result<(), Fail> {
-    for (room, fail, count, length) in DESKS {
-        assert!(rt; fails(rt.alloc(), room, fail, count, length)?, "{room}");
-    }
-    Ok(())
+// The first line or lines of a certificate; the room of a desk, the bytes that it takes a call, its call that fails, and the files that
+// stand then; and what is told. The first call makes the file, and a small room ends in the midst of the text.
+const CERTIFIED: &str =
+    "clearance certificate 1=4096 65536 0 1=0 season 1 stores 2 weeks 2 rungs base 2|path 1 2|prices 10.00 4.00|revenue 11.00000000 11.00000000|best yes|bound 11.50000000 step 0|gap 0.50000000|exact 11.50000000 11.50000000 first 1|
+clearance certificate 1=4096 7 0 1=0 season 1 stores 2 weeks 2 rungs base 2|path 1 2|prices 10.00 4.00|revenue 11.00000000 11.00000000|best yes|bound 11.50000000 step 0|gap 0.50000000|exact 11.50000000 11.50000000 first 1|
+clearance certificate 2|lengths,36,1,2,2=4096 65536 0 1=0 season 1 stores 2 weeks 2 rungs base 2|path 1 2|prices 10.00 4.00|revenue 11.00000000 11.00000000|best yes|bound 11.50000000 step 0|gap 0.50000000|exact 11.50000000 11.50000000 first 1|
+clearance certificate 1=4096 65536 1 0=5 write fault: certificate
+clearance certificate 1=100 65536 0 1=5 write fault: certificate";
+
+// The certificate of a line is written as the line tells, or as much of it as the desk has room for.
+fn is_certified(alloc: Global, line: &str) -> Result<bool, AllocError> {
+    let (head, rest) = line.split_once('=').unwrap_or((line, ""));
+    let (numbers, told) = rest.split_once('=').unwrap_or((rest, ""));
+    let [room, piece, fail, count] = numbers_of(numbers);
+    let mut desk = desk_of(alloc, 1, room, piece, fail)?;
+    let is_told = is_told(alloc, &mut desk, head, told)?;
+    let text = text_behind(alloc, head)?;
+    Ok(is_told && has_front(&desk, count, &text[..room.min(text.len())]))
+}
+
+// The report of the plan on a desk breaks off at its third call.
+fn is_broken_off(alloc: Global, desk: &mut MemoryDesk) -> Result<bool, AllocError> {
+    let files = held(alloc, "f", TWO_WEEKS, "")?;
+    let answer = certify(alloc, files, desk, Failing { report: 3, note: 0 })?;
+    Ok(answer.breaks_off(&bytes_of(alloc, REPORT)?, 32))
 }
 
 // A fault of the report leaves the certificate whole.
 fn is_whole_at_a_fault(alloc: Global) -> Result<bool, AllocError> {
-    let mut desk = MemoryDesk::new(alloc, 1, 4096, 65_536, Vec::new(alloc))?;
-    let files = held(alloc, "f", TWO_WEEKS, "")?;
-    let failing = Failing { report: 3, note: 0 };
-    let answer = certify(alloc, files, &mut desk, failing)?;
-    let report = bytes_of(alloc, REPORT)?;
-    let text = text_behind(alloc, HEAD)?;
-    Ok(answer.breaks_off(&report, 32) && has_front(&desk, &text, text.len()))
+    let mut desk = desk_of(alloc, 1, 4096, 65_536, 0)?;
+    let is_broken_off = is_broken_off(alloc, &mut desk)?;
+    Ok(is_broken_off && has_front(&desk, 1, &text_behind(alloc, HEAD)?))
 }
 
 #[test]
-fn reports_fail_behind_certificates(rt: HostRuntime) -> Result<(), Fail> {
+fn certificates_are_written(rt: HostRuntime) -> Result<(), Fail> {
+    for line in CERTIFIED.lines() {
+        assert!(rt; is_certified(rt.alloc(), line)?, "{line}");
+    }
     assert!(rt; is_whole_at_a_fault(rt.alloc())?);
     Ok(())
 }
@@ -162,20 +118,23 @@ const FOLDERS: &str =
     "plan certified --cert certified/c=0 season 1 stores 2 weeks 2 rungs base 2|path 1 2|prices 10.00 4.00|revenue 11.00000000 11.00000000|best yes|bound 11.50000000 step 0|gap 0.50000000|exact 11.50000000 11.50000000 first 1|
 plan certified --cert certified/no/c=5 write fault: certificate";
 
-// The words of a line are answered as it tells in real folders.
-fn is_line_told(rt: &impl RealFiles, alloc: Global, line: &str) -> Result<bool, AllocError> {
-    let (words, told) = line.split_once('=').unwrap_or((line, ""));
-    asked_on_disk(rt, alloc, words)?.says(alloc, told)
+// Makes a folder with the files of the season.
+fn make_folder(rt: &impl RealFiles, alloc: Global) -> Result<(), Fail> {
+    fs::create_dir(rt, "certified")?;
+    write_files(rt, &held(alloc, "certified", TWO_WEEKS, "")?)
+}
+
+// These are the bytes of the certificate.
+fn is_text(alloc: Global, bytes: &[u8]) -> Result<bool, AllocError> {
+    Ok(text_behind(alloc, HEAD)?.as_slice() == bytes)
 }
 
 #[test]
 fn certificates_stand_in_real_folders(rt: HostRuntime) -> Result<(), Fail> {
-    fs::create_dir(&rt, "certified")?;
-    write_files(&rt, &held(rt.alloc(), "certified", TWO_WEEKS, "")?)?;
+    make_folder(&rt, rt.alloc())?;
     for line in FOLDERS.lines() {
         assert!(rt; is_line_told(&rt, rt.alloc(), line)?, "{line}");
     }
-    let text = text_behind(rt.alloc(), HEAD)?;
-    assert!(rt; fs::read(&rt, "certified/c")?.as_slice() == text.as_slice());
+    assert!(rt; is_text(rt.alloc(), &fs::read(&rt, "certified/c")?)?);
     Ok(())
 }

@@ -1,8 +1,5 @@
 // Judged policies: what `run` reports of policy files in memory.
-use crate::cases::{
-    SMALLEST, TWO_WEEKS, asked_of, demand_of, held, is_answered, numbered, put_file,
-};
-use std::alloc::{AllocError, Global};
+use crate::cases::{TWO_WEEKS, unanswered};
 use std::test::Fail;
 
 const POLICIES: &str =
@@ -67,36 +64,20 @@ ladder.csv rung,price|1,10.00|
 stock.csv store,units,salvage|a,1,2.00|
 demand.csv store,week,rung,units,weight|a,1,1,0,1|a,1,1,1,3|
 > judge f
-= 10 absent: policy.json"#;
+= 10 absent: policy.json
+
+# Of 16 stores with 1,999 units each: four objects times 2000^16, which is held at 10^18.
+rules.json {"weeks":4,"base":1,"markdowns":0,"spacing":10}
+ladder.csv rung,price|1,5.00|2,4.00|3,3.00|4,2.00|5,1.00|
+stock.csv store,units,salvage|<# 0 15 s#,1999,0.01|>
+demand.csv store,week,rung,units,weight|<# 0 15 <$ 1 4 <& 1 5 s#,$,&,0,1|>>>
+policy.json {"rung":1,"then":{"rung":1,"then":{"rung":1,"then":{"rung":1}}}}
+> judge f
+= 6 limit: policy size 1000000000000000000"#;
 
 #[test]
 fn policies_are_judged(rt: HostRuntime) -> Result<(), Fail> {
-    for case in POLICIES.split("\n\n") {
-        assert!(rt; is_answered(rt.alloc(), TWO_WEEKS, case)?, "{case}");
-    }
-    Ok(())
-}
-
-const MANY: &str = r#"rules.json {"weeks":4,"base":1,"markdowns":0,"spacing":10}
-ladder.csv rung,price|1,5.00|2,4.00|3,3.00|4,2.00|5,1.00|
-- stock.csv
-- demand.csv
-policy.json {"rung":1,"then":{"rung":1,"then":{"rung":1,"then":{"rung":1}}}}"#;
-
-// Of 16 stores with 1,999 units each: four objects times 2000^16, which is held at 10^18.
-fn is_too_large(alloc: Global) -> Result<bool, AllocError> {
-    let mut stock = b"store,units,salvage\n".to_vec(alloc)?;
-    stock.extend_from_slice(&numbered(alloc, b"s#,1999,0.01\n", b'#', 0, 15)?)?;
-    let demand = demand_of(alloc, b"s#,$,&,0,1\n", 0, 15, 4, 5)?;
-    let mut files = held(alloc, "f", SMALLEST, MANY)?;
-    put_file(alloc, &mut files, "f", "stock.csv", stock)?;
-    put_file(alloc, &mut files, "f", "demand.csv", demand)?;
-    let answer = asked_of(alloc, "judge f", files, 4096, 0)?;
-    answer.says(alloc, "6 limit: policy size 1000000000000000000")
-}
-
-#[test]
-fn a_policy_may_be_too_large(rt: HostRuntime) -> Result<(), Fail> {
-    assert!(rt; is_too_large(rt.alloc())?);
+    let wrong = unanswered(rt.alloc(), TWO_WEEKS, POLICIES)?;
+    assert!(rt; wrong.is_none(), "{wrong:?}");
     Ok(())
 }

@@ -1,8 +1,8 @@
 // Made seasons: the files that `run` makes, and the plan of them. The reports were worked with another program, written after
 // the definitions alone; the first draws of seed 1 were drawn by hand.
 use crate::cases::{
-    Answer, Held, NONE_FAILS, asked_of, asked_on_disk, bytes_of, joined, list_of, read_on_disk,
-    run_over,
+    Answer, Held, NONE_FAILS, asked_of, asked_on_disk, bytes_of, desk_of, is_told, is_told_on_disk,
+    numbers_of, run_over,
 };
 use crate::ending::Status;
 use clr_io::{MemoryDesk, MemoryShelf};
@@ -29,14 +29,9 @@ out/demand.csv";
 // Of a plan in few steps.
 const QUICK: &str = "make out --steps 0 --nodes 0";
 
-// A desk with this room, and whose call of this number fails.
-fn desk_of(alloc: Global, room: usize, fail: u64) -> Result<MemoryDesk, AllocError> {
-    MemoryDesk::new(alloc, 4, room, 65_536, list_of(alloc, &[fail])?)
-}
-
 // The words are done on this desk. Each call on the shelf would fail.
 fn made(alloc: Global, words: &str, desk: &mut MemoryDesk) -> Result<Answer, AllocError> {
-    let fails = list_of(alloc, &[1, 2, 3, 4])?;
+    let fails = [1, 2, 3, 4].to_vec(alloc)?;
     let mut shelf = MemoryShelf::new(Vec::new(alloc), 1, fails);
     run_over(alloc, words, &mut shelf, desk, NONE_FAILS)
 }
@@ -60,6 +55,17 @@ fn file_of(desk: &MemoryDesk, index: usize) -> &[u8] {
     }
 }
 
+// The names and the bytes of the files on a desk.
+fn shown(alloc: Global, desk: &MemoryDesk) -> Result<Vec<u8>, AllocError> {
+    let mut text = Vec::new(alloc);
+    for index in 0..desk.count() {
+        text.extend_from_slice(desk.name(index).as_bytes())?;
+        text.push(b' ')?;
+        text.extend_from_slice(desk.bytes(index))?;
+    }
+    Ok(text)
+}
+
 // The files that stand on a desk.
 fn files_on(alloc: Global, desk: &MemoryDesk) -> Result<Held, AllocError> {
     let mut files = Vec::new(alloc);
@@ -77,32 +83,29 @@ fn is_made_so(
     desk: &mut MemoryDesk,
     told: &str,
 ) -> Result<bool, AllocError> {
-    let answer = made(alloc, words, desk)?;
-    Ok(answer.says(alloc, told)? && is_named(desk))
+    Ok(made(alloc, words, desk)?.says(alloc, told)? && is_named(desk))
 }
 
-// This is told of the plan of the files on the desk.
-fn is_planned_so(alloc: Global, desk: &MemoryDesk, told: &str) -> Result<bool, AllocError> {
-    let files = files_on(alloc, desk)?;
-    let answer = asked_of(alloc, "plan out", files, 65_536, 0)?;
-    answer.says(alloc, told)
-}
-
-// The season of the seed is made, and its files are planned with the same report.
-fn is_made(alloc: Global, seed: &str, stock: &str, told: &str) -> Result<bool, AllocError> {
-    let words = joined(alloc, "make out", " --seed ", seed)?;
-    let mut desk = desk_of(alloc, 100_000, 0)?;
-    let is_made = is_made_so(alloc, words.as_str(), &mut desk, told)?;
-    let is_planned = is_planned_so(alloc, &desk, told)?;
-    let stock = bytes_of(alloc, stock)?;
-    Ok(is_made && is_planned && file_of(&desk, 2).starts_with(&stock))
+// The season of the seed is made on the desk with this beginning of stock.csv, and its files are planned with the same report.
+fn is_made(
+    alloc: Global,
+    seed: &str,
+    desk: &mut MemoryDesk,
+    stock: &str,
+    told: &str,
+) -> Result<bool, AllocError> {
+    let words = format!(in alloc; "make out --seed {seed}")?;
+    let is_made = is_made_so(alloc, words.as_str(), desk, told)?;
+    let is_planned = is_told(alloc, "plan out", files_on(alloc, desk)?, 65_536, 0, told)?;
+    Ok(is_made && is_planned && file_of(desk, 2).starts_with(&bytes_of(alloc, stock)?))
 }
 
 // The season of a line is made as the line tells.
 fn is_line_made(alloc: Global, line: &str) -> Result<bool, AllocError> {
     let (seed, rest) = line.split_once('=').unwrap_or((line, ""));
     let (stock, told) = rest.split_once('=').unwrap_or((rest, ""));
-    is_made(alloc, seed, stock, told)
+    let mut desk = desk_of(alloc, 4, 100_000, 65_536, 0)?;
+    is_made(alloc, seed, &mut desk, stock, told)
 }
 
 #[test]
@@ -113,23 +116,20 @@ fn seasons_are_made_and_planned(rt: HostRuntime) -> Result<(), Fail> {
     Ok(())
 }
 
-// The same files stand on both desks.
-fn are_same(desk: &MemoryDesk, other: &MemoryDesk) -> bool {
-    for index in 0..4 {
-        if file_of(desk, index) != file_of(other, index) {
-            return false;
-        }
+// What is shown of a season that is made as it is told; nothing where it isn't.
+fn shown_so(alloc: Global, words: &str, told: &str) -> Result<Vec<u8>, AllocError> {
+    let mut desk = desk_of(alloc, 4, 100_000, 65_536, 0)?;
+    if !is_made_so(alloc, words, &mut desk, told)? {
+        return Ok(Vec::new(alloc));
     }
-    true
+    shown(alloc, &desk)
 }
 
 // The seed is 1 where none is given, and what is made is the same each time.
 fn are_made_again(alloc: Global) -> Result<bool, AllocError> {
-    let mut desk = desk_of(alloc, 100_000, 0)?;
-    let mut other = desk_of(alloc, 100_000, 0)?;
-    let is_first = is_made_so(alloc, "make out", &mut desk, FIRST)?;
-    let is_again = is_made_so(alloc, "make out --seed 1", &mut other, FIRST)?;
-    Ok(is_first && is_again && are_same(&desk, &other))
+    let first = shown_so(alloc, "make out", FIRST)?;
+    let again = shown_so(alloc, "make out --seed 1", FIRST)?;
+    Ok(!first.is_empty() && first.as_slice() == again.as_slice())
 }
 
 #[test]
@@ -138,51 +138,24 @@ fn seasons_are_made_again(rt: HostRuntime) -> Result<(), Fail> {
     Ok(())
 }
 
-// The calls of a desk that fail, the files that stand then, the bytes of demand.csv, and what is told. Each file takes a call to be
-// made and one to be written, but for demand.csv, which takes two to be written.
-const FAULTS: [(u64, usize, usize, &str); 5] = [
-    (1, 0, 0, "5 write fault: rules.json"),
-    (2, 1, 0, "5 write fault: rules.json"),
-    (3, 1, 0, "5 write fault: ladder.csv"),
-    (5, 2, 0, "5 write fault: stock.csv"),
-    (9, 4, 65_536, "5 write fault: demand.csv"),
-];
+// The room of a desk, its call that fails, the files that stand then, and the bytes of the last where it is demand.csv and the call
+// fails; and what is told. Each file takes a call to be made and one to be written, but for demand.csv, which takes two to be written.
+// A small room ends in the midst of demand.csv.
+const FAULTS: &str = "100000 1 0 0=5 write fault: rules.json
+100000 2 1 0=5 write fault: rules.json
+100000 3 1 0=5 write fault: ladder.csv
+100000 5 2 0=5 write fault: stock.csv
+100000 9 4 65536=5 write fault: demand.csv
+1000 0 4 0=5 write fault: demand.csv";
 
-// On this desk the making of a season fails: so many files stand, and of each a front of what stands on `whole`.
-fn is_cut(
-    alloc: Global,
-    desk: &mut MemoryDesk,
-    whole: &MemoryDesk,
-    count: usize,
-    told: &str,
-) -> Result<bool, AllocError> {
-    let answer = made(alloc, QUICK, desk)?;
-    for index in 0..4 {
-        if !file_of(whole, index).starts_with(file_of(desk, index)) {
-            return Ok(false);
-        }
-    }
-    Ok(answer.says(alloc, told)? && desk.count() == count)
-}
-
-// So it fails at a call, and so many bytes of demand.csv stand.
-fn is_cut_at(
-    alloc: Global,
-    whole: &MemoryDesk,
-    call: u64,
-    count: usize,
-    bytes: usize,
-    told: &str,
-) -> Result<bool, AllocError> {
-    let mut desk = desk_of(alloc, 100_000, call)?;
-    let is_told = is_cut(alloc, &mut desk, whole, count, told)?;
-    Ok(is_told && file_of(&desk, 3).len() == bytes)
-}
-
-// The room ends in the midst of demand.csv.
-fn is_cut_in_room(alloc: Global, whole: &MemoryDesk) -> Result<bool, AllocError> {
-    let mut desk = desk_of(alloc, 1000, 0)?;
-    is_cut(alloc, &mut desk, whole, 4, "5 write fault: demand.csv")
+// On the desk of a line the making of a season fails as the line tells: what stands there is a front of what stands on a whole desk.
+fn is_cut(alloc: Global, whole: &[u8], line: &str) -> Result<bool, AllocError> {
+    let (numbers, told) = line.split_once('=').unwrap_or((line, ""));
+    let [room, fail, count, bytes] = numbers_of(numbers);
+    let mut desk = desk_of(alloc, 4, room, 65_536, fail)?;
+    let is_told = made(alloc, QUICK, &mut desk)?.says(alloc, told)?;
+    let stands = desk.count() == count && (bytes == 0 || file_of(&desk, 3).len() == bytes);
+    Ok(is_told && stands && whole.starts_with(&shown(alloc, &desk)?))
 }
 
 // The quick plan's report of a made season, and its files on the desk.
@@ -193,31 +166,40 @@ fn is_made_quickly(alloc: Global, desk: &mut MemoryDesk) -> Result<bool, AllocEr
     Ok(again.reports(answer.out.bytes()) && answer.status == Status::Ok && is_named(desk))
 }
 
+// What is shown of a season that is made quickly; nothing where it is wrong.
+fn shown_quickly(alloc: Global) -> Result<Vec<u8>, AllocError> {
+    let mut desk = desk_of(alloc, 4, 100_000, 65_536, 10)?;
+    if !is_made_quickly(alloc, &mut desk)? {
+        return Ok(Vec::new(alloc));
+    }
+    shown(alloc, &desk)
+}
+
 #[test]
 fn desks_fail_while_seasons_are_made(rt: HostRuntime) -> Result<(), Fail> {
-    let mut whole = desk_of(rt.alloc(), 100_000, 10)?;
-    assert!(rt; is_made_quickly(rt.alloc(), &mut whole)?);
-    for (call, count, bytes, told) in FAULTS {
-        assert!(rt;
-            is_cut_at(rt.alloc(), &whole, call, count, bytes, told)?,
-            "{call}"
-        );
+    let whole = shown_quickly(rt.alloc())?;
+    assert!(rt; !whole.is_empty());
+    for line in FAULTS.lines() {
+        assert!(rt; is_cut(rt.alloc(), &whole, line)?, "{line}");
     }
-    assert!(rt; is_cut_in_room(rt.alloc(), &whole)?);
     Ok(())
 }
 
 // A season is made in a real folder, which is there, and its plan has the same report.
 fn is_made_in_folder(rt: &impl RealFiles, alloc: Global) -> Result<bool, AllocError> {
     let answer = asked_on_disk(rt, alloc, "make made --steps 0 --nodes 0")?;
-    let again = read_on_disk(rt, alloc, "plan made --steps 0 --nodes 0")?;
+    let again = asked_on_disk(rt, alloc, "plan made --steps 0 --nodes 0")?;
     Ok(answer.status == Status::Ok && again.reports(answer.out.bytes()))
 }
 
 // A folder that isn't there takes no files.
 fn is_no_folder_told(rt: &impl RealFiles, alloc: Global) -> Result<bool, AllocError> {
-    let answer = asked_on_disk(rt, alloc, "make made/no --steps 0 --nodes 0")?;
-    answer.says(alloc, "5 write fault: rules.json")
+    is_told_on_disk(
+        rt,
+        alloc,
+        "make made/no --steps 0 --nodes 0",
+        "5 write fault: rules.json",
+    )
 }
 
 #[test]

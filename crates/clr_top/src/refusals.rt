@@ -1,6 +1,5 @@
 // Files that are refused: each with its note, the first refusal in the order of the files, rows and columns.
-use crate::cases::{SMALLEST, is_answered_twice};
-use std::fs;
+use crate::cases::unanswered_twice;
 use std::test::Fail;
 
 // Each file of the smallest season in turn, and then later versions, with a column of costs and weights that are scaled to the base.
@@ -305,12 +304,7 @@ demand.csv store,week,rung,units,weight|a,1,1,0,0|
 
 #[test]
 fn first_refusals_are_told(rt: HostRuntime) -> Result<(), Fail> {
-    fs::create_dir(&rt, "refused")?;
-    for case in REFUSALS.split("\n\n") {
-        assert!(rt;
-            is_answered_twice(&rt, rt.alloc(), "refused", SMALLEST, case)?,
-            "{case}"
-        );
-    }
+    let wrong = unanswered_twice(&rt, rt.alloc(), "refused", REFUSALS)?;
+    assert!(rt; wrong.is_none(), "{wrong:?}");
     Ok(())
 }
