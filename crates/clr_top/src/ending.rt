@@ -1,10 +1,9 @@
 // How a run ends, and the note of it.
 ghost use Rattle.std.specs.Prelude.{◌≡◌};
-ghost use Rattle.clr_top.specs.Runs.{Notes, doc_of, number_of, status_of};
+ghost use Rattle.clr_top.specs.Endings.{Notes, number_of, status_of};
 
 use clr_io::{Sink, write_whole};
-use clr_report::{Cause, Doc, note_text};
-use clr_season::File;
+use clr_report::{Cause, note_text};
 
 /// How a run ended.
 #[derive(Clone, Copy, Debug, PartialEq, Eq)]
@@ -75,19 +74,6 @@ pub(crate) fn ending_status(cause: Cause) -> Status
         Cause::PolicyUnknown { .. } => Status::PolicyNo,
         Cause::PolicyRule { .. } => Status::PolicyNo,
         Cause::Memory => Status::Memory,
-    }
-}
-
-/// A file as the notes name it.
-pub(crate) fn doc(file: File) -> Doc
-    ensures { result ≡ doc_of file }
-{
-    match file {
-        File::Rules => Doc::Rules,
-        File::Calendar => Doc::Calendar,
-        File::Ladder => Doc::Ladder,
-        File::Stock => Doc::Stock,
-        File::Demand => Doc::Demand,
     }
 }
 

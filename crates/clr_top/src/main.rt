@@ -7,23 +7,17 @@
 mod cases;
 #[cfg(test)]
 mod certs;
-mod check;
 #[cfg(test)]
 mod checks;
 mod ending;
-mod entries;
-mod exact;
 #[cfg(test)]
 mod faults;
-mod judge;
 #[cfg(test)]
 mod judges;
-mod make;
 #[cfg(test)]
 mod makes;
 #[cfg(test)]
 mod paths;
-mod plan;
 mod program;
 #[cfg(test)]
 mod refusals;

@@ -1,7 +1,8 @@
 use Rattle.std.proofs.Common.{◌≡◌, ◌∙◌, inl, inr, sym, subst, refl, map, string_bytes, Some}
 use Rattle.std.specs.Prelude.{◌⊎◌, IfSome}
 use Rattle.clr_top.specs.declared.ending.Status.TheVariants as s
-use Rattle.clr_top.specs.Runs.{Exactly, docs_asked, ending_asked}
+use Rattle.clr_jobs.specs.Runs.{docs_asked, ending_asked}
+use Rattle.clr_top.specs.Endings.{Exactly}
 use Rattle.clr_top.proofs.Ends.{exactly-ok, exactly-told, makes-caused, ok-no-read, ok-no-words, ok-no-write, only-memory, read-caused, words-caused, write-caused}
 use Rattle.clr_top.proofs.program.run.Goals as goal
 

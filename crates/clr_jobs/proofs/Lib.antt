@@ -1,0 +1,11 @@
+pub mod Asking
+pub mod Certifying
+pub mod Checked
+pub mod Ends
+pub mod Further
+pub mod JointAsking
+pub mod Judged
+pub mod Making
+pub mod Reporting
+pub mod Tabled
+pub mod Writing

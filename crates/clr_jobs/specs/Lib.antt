@@ -1,0 +1,9 @@
+pub mod Checking
+pub mod FileEnds
+pub mod Held
+pub mod Judging
+pub mod Making
+pub mod Outputs
+pub mod Plans
+pub mod Ready
+pub mod Runs
