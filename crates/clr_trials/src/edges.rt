@@ -224,8 +224,11 @@ pub(crate) fn is_written(alloc: Global, case: &str) -> Result<bool, AllocError> 
     let (room, fail) = parts(rest);
     let (want, bytes) = parts(want);
     let mut sink = MemorySink::new(alloc, count(room), 2, list_of(alloc, fail)?)?;
-    let is_whole = write_whole(&mut sink, text.as_bytes()).is_ok();
-    Ok(is_whole == (want == "Ok") && sink.bytes() == bytes.as_bytes())
+    let answer = match write_whole(&mut sink, text.as_bytes()) {
+        Ok(()) => "Ok",
+        Err(_) => "Failed",
+    };
+    Ok(answer == want && sink.bytes() == bytes.as_bytes())
 }
 
 #[test]

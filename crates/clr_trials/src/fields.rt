@@ -242,7 +242,8 @@ a\u{1f}=>false
 pub(crate) fn is_judged(alloc: Global, case: &str) -> Result<bool, AllocError> {
     let (name, want) = sides(case);
     let name = file_of(alloc, name, "")?;
-    Ok(is_name(&name) == (want == "true"))
+    let answer = if is_name(&name) { "true" } else { "false" };
+    Ok(answer == want)
 }
 
 #[test]
