@@ -2,7 +2,7 @@ ghost use Rattle.clr_average.specs.Average.{IsRow, IsWithin, mass, near, row_wei
 ghost use Rattle.std.specs.Prelude.{sum, ◌≡◌, ℕ, ◌≤◌, ◌<◌, ◌-◌, ◌+◌, ◌*◌, ◌^◌, min, ℤ, pos, ◌+ℤ◌, ◌-ℤ◌, ◌*ℤ◌, IsTrue, length, get_or, EachIndex};
 
 use crate::total::Total;
-use clr_num::Direction;
+use clr_num::{Direction, Divisor};
 
 /// The sum with the weights of the demands up to the stock times the values of what they leave.
 #[inline(always)]
@@ -53,12 +53,13 @@ pub fn average_row<R: Direction, A: Total>(
     requires row { (reach : ℕ) × IsRow A.limit base gain reach weights.now after.now }
     ensures { EachIndex out.new (λ k. get_or out.new k (pos 0) ≡ R.quotient (row_weighed weights.now gain after.now k) base) }
 {
+    let divisor = Divisor::new(u64::from(base));
     let mut tail = base;
     let mut earned = A::zero();
     for stock in 0..out.len() {
         tail = tail_after(tail, weights, stock);
         let total = plus_near(earned, weights, after, stock).plus(tail, after[0]);
-        out[stock] = total.average::<R>(base);
+        out[stock] = total.average::<R>(&divisor);
         earned = earned.plus(tail, gain as i64);
     }
 }
@@ -71,7 +72,7 @@ fn fits_narrow(base: u32, gain: u64, size: usize, reach: u64) -> bool
     requires reach { reach ≤ 1000000000000000000 }
     ensures { IsTrue result → base * (gain * size + reach) ≤ 2 ^ 63 - 1 }
 {
-    gain * size as u64 + reach <= i64::MAX as u64 / u64::from(base)
+    u128::from(base) * u128::from(gain * size as u64 + reach) <= i64::MAX as u128
 }
 
 /// Writes the averages of `average_row`, with sums at 64 bits where these hold them, and at 128 bits elsewhere.

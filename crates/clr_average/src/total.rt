@@ -3,7 +3,7 @@ ghost use Rattle.std.specs.Int.RustNames.{FitsSigned};
 ghost use Rattle.std.specs.Prelude.{◌≡◌, ℕ, ◌≤◌, ◌-◌, ◌^◌, ℤ, pos, ◌+ℤ◌, ◌*ℤ◌};
 ghost use mir.Syntax.{w64};
 
-use clr_num::Direction;
+use clr_num::{Direction, Divisor};
 
 /// A running sum of products, exact up to its limit in size: at 64 bits for rows that these hold, at 128 for
 /// the rest.
@@ -25,10 +25,9 @@ pub trait Total: Copy + Drop {
         ensures { amount result ≡ amount self +ℤ pos factor *ℤ value };
 
     /// The sum divided by the base, rounded in the direction `R`. The quotient fits 64 bits.
-    fn average<R: Direction>(self, base: u32) -> i64
-        requires base { 1 ≤ base }
-        requires fits { FitsSigned w64 (R.quotient (amount self) base) }
-        ensures { result ≡ R.quotient (amount self) base };
+    fn average<R: Direction>(self, base: &Divisor) -> i64
+        requires { FitsSigned w64 (R.quotient (amount self) base.now) }
+        ensures { result ≡ R.quotient (amount self) base.now };
 }
 
 impl Total for i64 {
@@ -47,8 +46,8 @@ impl Total for i64 {
     }
 
     #[inline(always)]
-    fn average<R: Direction>(self, base: u32) -> i64 {
-        R::div_narrow(self, i64::from(base))
+    fn average<R: Direction>(self, base: &Divisor) -> i64 {
+        R::div_by(i128::from(self), base) as i64
     }
 }
 
@@ -68,7 +67,7 @@ impl Total for i128 {
     }
 
     #[inline(always)]
-    fn average<R: Direction>(self, base: u32) -> i64 {
-        R::div(self, i128::from(base)) as i64
+    fn average<R: Direction>(self, base: &Divisor) -> i64 {
+        R::div_by(self, base) as i64
     }
 }

@@ -4,6 +4,8 @@ ghost use Rattle.clr_num.specs.DirectionLaws.{ceil_is_direction, floor_is_direct
 ghost use Rattle.clr_num.specs.Rounding.{ceil, floor, RoundsDown, RoundsUp};
 ghost use Rattle.std.specs.Prelude.{◌≡◌, ℕ, ℤ, pos, ◌≤ℤ◌, nat_abs};
 
+use crate::divisor::Divisor;
+
 /// A way to round, up or down.
 ///
 /// A lower bound is computed with [`Down`] and an upper bound with [`Up`], by one body. Sums,
@@ -23,10 +25,10 @@ pub trait Direction {
         requires { pos 1 ≤ℤ base }
         ensures { result ≡ quotient num (nat_abs base) };
 
-    /// [`Direction::div`] at 64 bits, which is far faster.
-    fn div_narrow(num: i64, base: i64) -> i64
-        requires { pos 1 ≤ℤ base }
-        ensures { result ≡ quotient num (nat_abs base) };
+    /// [`Direction::div`] by a base that was made ready, which is far faster where the number has
+    /// at most 64 bits.
+    fn div_by(num: i128, divisor: &Divisor) -> i128
+        ensures { result ≡ quotient num divisor.now };
 
     // Sums and averages keep the relation, and a division goes its way by less than one.
     ghost laws: { IsDirection leans quotient };
@@ -47,8 +49,12 @@ impl Direction for Down {
         num / base - i128::from(num % base < 0)
     }
 
-    fn div_narrow(num: i64, base: i64) -> i64 {
-        num / base - i64::from(num % base < 0)
+    #[inline(always)]
+    fn div_by(num: i128, divisor: &Divisor) -> i128 {
+        match divisor.split(num) {
+            Some(split) => i128::from(split.quotient),
+            None => Down::div(num, divisor.base()),
+        }
     }
 
     ghost laws = { floor_is_direction };
@@ -63,8 +69,12 @@ impl Direction for Up {
         num / base + i128::from(num % base > 0)
     }
 
-    fn div_narrow(num: i64, base: i64) -> i64 {
-        num / base + i64::from(num % base > 0)
+    #[inline(always)]
+    fn div_by(num: i128, divisor: &Divisor) -> i128 {
+        match divisor.split(num) {
+            Some(split) => i128::from(split.quotient) + i128::from(split.rest > 0),
+            None => Up::div(num, divisor.base()),
+        }
     }
 
     ghost laws = { ceil_is_direction };

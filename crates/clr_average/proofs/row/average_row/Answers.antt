@@ -32,13 +32,13 @@ plus-total-requires-clause-sum g c =
     cell_fits g.A.Total.limit c.args.base c.args.gain c.requires.row.0 c.args.weights.now c.args.after.now c.requires.row.1 c.tail_after-tail.result c.loop-stock.stock (g.A.Total.amount c.loop-stock.earned) (g.A.Total.amount c.plus_near.result) (to_z w64 (of_z w64 (get_or c.args.after.now 0 (pos 0))))
     (omega (arith, c.requires.lengths, c.loop-stock-test.true)) (to_z-of_z w64 (get_or c.args.after.now 0 (pos 0)) fits) c.tail_after-tail.ensures c.loop-stock.invariant.earned c.plus_near.ensures
 
-pub average-requires-clause-fits : goal.average-requires-clause-fits
-average-requires-clause-fits g c =
+pub average-requires : goal.average-requires
+average-requires g c =
     let fits : SFits w64 (get_or c.args.after.now 0 (pos 0)) = search rules in
     let sum : g.A.Total.amount c.plus-total.result ≡ row_weighed c.args.weights.now c.args.gain c.args.after.now c.loop-stock.stock =
     c.plus-total.ensures ∙ cell_sum g.A.Total.limit c.args.base c.args.gain c.requires.row.0 c.args.weights.now c.args.after.now c.requires.row.1 c.tail_after-tail.result c.loop-stock.stock (g.A.Total.amount c.loop-stock.earned) (g.A.Total.amount c.plus_near.result) (to_z w64 (of_z w64 (get_or c.args.after.now 0 (pos 0))))
     (to_z-of_z w64 (get_or c.args.after.now 0 (pos 0)) fits) c.tail_after-tail.ensures c.loop-stock.invariant.earned c.plus_near.ensures in
-    average_fits g.A.Total.limit c.args.base c.args.gain c.requires.row.0 c.args.weights.now c.args.after.now c.requires.row.1 g.R.Direction.leans g.R.Direction.quotient g.met.R.Direction.laws c.loop-stock.stock (g.A.Total.amount c.plus-total.result) (omega (arith, c.requires.lengths, c.loop-stock-test.true)) sum
+    rw (c.new-divisor.ensures ∙ c.from.ensures) (average_fits g.A.Total.limit c.args.base c.args.gain c.requires.row.0 c.args.weights.now c.args.after.now c.requires.row.1 g.R.Direction.leans g.R.Direction.quotient g.met.R.Direction.laws c.loop-stock.stock (g.A.Total.amount c.plus-total.result) (omega (arith, c.requires.lengths, c.loop-stock-test.true)) sum)
 
 pub plus-earned-requires-clause-product : goal.plus-earned-requires-clause-product
 plus-earned-requires-clause-product g c =
@@ -62,5 +62,5 @@ loop-stock-preserved g c =
       earned = c.plus-earned.ensures ∙ earned_next g.A.Total.limit c.args.base c.args.gain c.requires.row.0 c.args.weights.now c.args.after.now c.requires.row.1 c.tail_after-tail.result c.loop-stock.stock (g.A.Total.amount c.loop-stock.earned) (to_z w64 c.args.gain)
           (gain_read g.A.Total.limit c.args.base c.args.gain c.requires.row.0 c.args.weights.now c.args.after.now c.requires.row.1 (omega (arith, c.requires.lengths, c.loop-stock-test.true))) c.tail_after-tail.ensures c.loop-stock.invariant.earned;
       done = row_more c.loop-stock.out c.loop-stock.stock _ (λ k. g.R.Direction.quotient (row_weighed c.args.weights.now c.args.gain c.args.after.now k) c.args.base) (omega (arith, c.loop-stock.auto.out, c.loop-stock-test.true))
-          (to_z-of_z w64 c.average.result result_fits ∙ (c.average.ensures ∙ ap (λ t. g.R.Direction.quotient t c.args.base) sum)) c.loop-stock.invariant.done;
+          (to_z-of_z w64 c.average.result result_fits ∙ (c.average.ensures ∙ (ap (λ b. g.R.Direction.quotient (g.A.Total.amount c.plus-total.result) b) (c.new-divisor.ensures ∙ c.from.ensures) ∙ ap (λ t. g.R.Direction.quotient t c.args.base) sum))) c.loop-stock.invariant.done;
     }
