@@ -3,7 +3,7 @@ use crate::edges::{STEPS, is_desk, is_shelf, is_sink, is_whole, is_written};
 use crate::fields::{is_counted, is_cut, is_in_range, is_judged, is_tabled};
 use crate::lines::{is_fault, is_read_by_each};
 use crate::multipliers::is_stepped;
-use crate::numbers::is_printed;
+use crate::numbers::{is_divided, is_printed};
 use crate::rules::{is_first, is_live, is_week};
 use crate::rules_files::{are_limits, are_nested, is_calendar};
 use crate::stores::{is_ladder, is_shown};
@@ -32,6 +32,7 @@ pub(crate) enum Kind {
     Step,
     Units,
     Cents,
+    Quotient,
     Week,
     Live,
     Path,
@@ -65,6 +66,7 @@ fn holds(alloc: Global, kind: Kind, case: &str) -> Result<bool, AllocError> {
         Kind::Step => is_stepped(alloc, case),
         Kind::Units => is_printed(alloc, case, true),
         Kind::Cents => is_printed(alloc, case, false),
+        Kind::Quotient => Ok(is_divided(case)),
         Kind::Week => is_week(alloc, case),
         Kind::Live => is_live(alloc, case),
         Kind::Path => is_first(alloc, case),
