@@ -21,8 +21,8 @@ use Rattle.clr_model.specs.Revenue.{full_stocks}
 use Rattle.clr_model.proofs.JointBounds.{best_live}
 use Rattle.clr_storedp.proofs.Prefixes.{live_summary_of}
 use Rattle.clr_path.proofs.Lists.{get_or-numbers, length-numbers}
-use Rattle.clr_joint.specs.Stocks.{lists_of, stocks_at}
-use Rattle.clr_joint.specs.Stocks.{all_stocks as all_units}
+use Rattle.clr_model.specs.Stocks.{lists_of, stocks_at}
+use Rattle.clr_model.specs.Stocks.{all_stocks as all_units}
 use Rattle.clr_joint.specs.Tables.{Entry, HasStocks, IsJointOf, at_stocks, choices_of, values_of}
 use Rattle.clr_joint.proofs.Built.{at_held, has_held}
 use Rattle.clr_joint.proofs.Grid.{AreHeld, all_stocks_are, held_at}

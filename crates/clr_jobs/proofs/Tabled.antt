@@ -9,7 +9,7 @@ use Rattle.clr_season.specs.Season.{IsSeason, Season}
 use Rattle.clr_model.specs.JointValue.{choice_tree, joint_rung_at, joint_table}
 use Rattle.clr_model.specs.Policies.{Abides, IsWhole}
 use Rattle.clr_model.specs.Revenue.{full_stocks}
-use Rattle.clr_joint.specs.Stocks.{all_stocks}
+use Rattle.clr_model.specs.Stocks.{all_stocks}
 use Rattle.clr_joint.specs.Tables.{Entry, HasStocks, IsJointOf, choices_of, table_pairs}
 use Rattle.clr_joint.proofs.Built.{has_held}
 use Rattle.clr_joint.proofs.Grid.{held_self}

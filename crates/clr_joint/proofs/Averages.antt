@@ -20,7 +20,7 @@ use Rattle.clr_storedp.specs.Rows.{AreRows, AreWithin, row_at}
 use Rattle.clr_storedp.proofs.Lists.{get_or-row_at}
 use Rattle.clr_joint.specs.BySummary.{average_into, by_place, summary_value}
 use Rattle.clr_joint.specs.Folds.{AreFolded, fold_reach}
-use Rattle.clr_joint.specs.Stocks.{lists_of, place_in, stocks_at}
+use Rattle.clr_model.specs.Stocks.{lists_of, place_in, stocks_at}
 use Rattle.clr_joint.proofs.Grid.{AreHeld, held_at, held_left, last_units_all, length-full_stocks, length-stocks_at, place_inside, stocks_back}
 
 -- ---- one row

@@ -20,7 +20,7 @@ use Rattle.clr_storedp.specs.Rows.{IsInside, WeekRows, place_of, row_at, week_at
 use Rattle.clr_storedp.proofs.Lists.{got_inside}
 use Rattle.clr_storedp.proofs.TableLemmas.{get_or-numbers}
 use Rattle.clr_joint.specs.Rows.{IsKept, entries_of}
-use Rattle.clr_joint.specs.Stocks.{all_stocks, lists_of, place_in, stocks_at}
+use Rattle.clr_model.specs.Stocks.{all_stocks, lists_of, place_in, stocks_at}
 use Rattle.clr_joint.specs.Tables.{Entry, HasStocks, IsEnclosed, IsJointOf, at_stocks, choices_of, is_at, opening}
 use Rattle.clr_joint.specs.Weeks.{AreWeeks}
 use Rattle.clr_joint.proofs.Grid.{AreHeld, all_stocks_are, held_self, last_list, place_inside, stocks_back}

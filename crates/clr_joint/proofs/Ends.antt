@@ -11,7 +11,7 @@ use Rattle.clr_model.specs.Revenue.{cent, full_stocks, salvage_cents}
 use Rattle.clr_model.proofs.Sums.{sum_of-same}
 use Rattle.clr_joint.specs.Ends.{AreWorths, worth_from}
 use Rattle.clr_joint.specs.Folds.{last_units}
-use Rattle.clr_joint.specs.Stocks.{lists_of, stocks_at}
+use Rattle.clr_model.specs.Stocks.{lists_of, stocks_at}
 use Rattle.clr_joint.proofs.Grid.{last_units_all, last_units_more}
 use Rattle.clr_joint.proofs.Limits.{lists_some}
 

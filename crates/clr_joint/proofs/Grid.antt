@@ -9,7 +9,7 @@ use Rattle.clr_stock.specs.Stock.{Store, no_store}
 use Rattle.clr_season.specs.Season.{Season, store_at}
 use Rattle.clr_model.specs.Revenue.{full_stocks, left, stocks_left}
 use Rattle.clr_joint.specs.Folds.{last_units}
-use Rattle.clr_joint.specs.Stocks.{all_stocks, lists_of, place_in, stocks_at}
+use Rattle.clr_model.specs.Stocks.{all_stocks, lists_of, place_in, stocks_at}
 use Rattle.clr_joint.proofs.Limits.{lists_some}
 
 -- one stock for each store, and no more than its units

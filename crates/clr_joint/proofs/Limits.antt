@@ -8,7 +8,7 @@ use Rattle.clr_model.specs.Fits.{fits, joint_branches, joint_size, most_joint_ba
 use Rattle.clr_model.specs.JointWeek.{joint_base}
 use Rattle.clr_model.specs.Revenue.{full_stocks}
 use Rattle.clr_joint.specs.Folds.{fold_reach}
-use Rattle.clr_joint.specs.Stocks.{lists_of}
+use Rattle.clr_model.specs.Stocks.{lists_of}
 
 -- ---- the number of lists of stocks
 

@@ -2,7 +2,7 @@
 use Rattle.std.proofs.Common.{◌≡◌, ℕ, zero, suc, ◌+◌, ◌*◌, ◌≤◌, ◌<◌, List, [], ◌∷◌, ◌++◌, drop, take, length, map, get_or, arith, refl, ap, ap₂, sym, ◌∙◌, add-mul, mul_assoc, mul-le-mul_left}
 use Rattle.std.proofs.lemmas.List.{drop_more}
 use Rattle.clr_stock.specs.Stock.{Store, no_store}
-use Rattle.clr_joint.specs.Stocks.{lists_of, place_in}
+use Rattle.clr_model.specs.Stocks.{lists_of, place_in}
 
 -- ---- the number of lists
 

@@ -11,7 +11,7 @@ use Rattle.clr_model.specs.JointValue.{joint_low_at, joint_rung_at, joint_top_at
 use Rattle.clr_model.specs.Revenue.{full_stocks}
 use Rattle.clr_model.specs.StoreValue.{AreStocks}
 use Rattle.clr_joint.specs.Laws.{JointReads}
-use Rattle.clr_joint.specs.Stocks.{all_stocks}
+use Rattle.clr_model.specs.Stocks.{all_stocks}
 use Rattle.clr_joint.specs.Tables.{HasStocks, at_stocks, choices_of}
 use Rattle.clr_joint.proofs.Built.{at_held, has_held}
 use Rattle.clr_joint.proofs.Grid.{AreHeld, length-full_stocks}

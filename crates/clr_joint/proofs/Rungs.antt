@@ -14,7 +14,7 @@ use Rattle.clr_storedp.proofs.Bests.{best_more, best_value_more}
 use Rattle.clr_storedp.proofs.Leads.{leads_more}
 use Rattle.clr_storedp.proofs.Lists.{get_or-row_at, got_inside, in_rows}
 use Rattle.clr_joint.specs.BySummary.{average_into, by_place, choice_so_far, costs, lead_value, value_so_far}
-use Rattle.clr_joint.specs.Stocks.{stocks_at}
+use Rattle.clr_model.specs.Stocks.{stocks_at}
 
 -- ---- the best of the rungs that lead on, one rung more
 

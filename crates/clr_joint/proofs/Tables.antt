@@ -24,7 +24,7 @@ use Rattle.clr_storedp.proofs.Lists.{got_inside, length-row_at}
 use Rattle.clr_storedp.proofs.TableLemmas.{among_any, is_pair, length-numbers, place_found, row_inside, row_is, row_none, row_small}
 use Rattle.clr_joint.specs.BySummary.{by_place, summary_choice, summary_value}
 use Rattle.clr_joint.specs.Rows.{IsKept, entries_of, entry_of}
-use Rattle.clr_joint.specs.Stocks.{all_stocks, lists_of, place_in, stocks_at}
+use Rattle.clr_model.specs.Stocks.{all_stocks, lists_of, place_in, stocks_at}
 use Rattle.clr_joint.specs.Tables.{Entry, HasStocks, IsJointOf, at_stocks, choices_of, is_at, opening, table_pairs, values_of}
 use Rattle.clr_joint.specs.Weeks.{AreWeeks, IsWeek}
 use Rattle.clr_joint.proofs.Grid.{all_stocks_are, length-stocks_at, place_back}

@@ -23,7 +23,7 @@ use Rattle.clr_storedp.specs.Weeks.{live_week}
 use Rattle.clr_storedp.proofs.Prefixes.{prefix_is}
 use Rattle.clr_storedp.proofs.WeekRows.{in_some_row, live_at}
 use Rattle.clr_joint.specs.BySummary.{by_place, summary_value}
-use Rattle.clr_joint.specs.Stocks.{lists_of, stocks_at}
+use Rattle.clr_model.specs.Stocks.{lists_of, stocks_at}
 use Rattle.clr_joint.specs.Weeks.{AreWeeks, IsWeek}
 use Rattle.clr_joint.proofs.Grid.{AreHeld, held_at, units_at}
 use Rattle.clr_joint.proofs.Sizes.{value_high, value_low, worth}

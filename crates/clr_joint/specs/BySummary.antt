@@ -8,7 +8,7 @@ use Rattle.clr_model.specs.JointValue.{joint_rung_value, joint_value, joint_valu
 use Rattle.clr_model.specs.JointWeek.{joint_weighed, joint_base}
 use Rattle.clr_model.specs.Revenue.{cent, fee, full_stocks, sum_stores}
 use Rattle.clr_storedp.specs.BySummary.{best_value, leads, summary_prefix}
-use Rattle.clr_joint.specs.Stocks.{stocks_at}
+use Rattle.clr_model.specs.Stocks.{stocks_at}
 
 -- the value after a prefix with a summary, at a list of stocks
 abbrev pub summary_value : (ℤ → ℕ → ℤ) → Season → ℕ → Summary → List ℕ → ℤ

@@ -5,7 +5,7 @@ use Rattle.clr_season.specs.Season.{Season}
 use Rattle.clr_model.specs.Revenue.{cent, salvage_cents}
 use Rattle.clr_storedp.specs.Rows.{AreWithin}
 use Rattle.clr_joint.specs.Folds.{last_units}
-use Rattle.clr_joint.specs.Stocks.{lists_of, stocks_at}
+use Rattle.clr_model.specs.Stocks.{lists_of, stocks_at}
 
 -- of the stores from one on, so many of them
 abbrev pub worth_from : Season → ℕ → ℕ → List ℕ → ℤ

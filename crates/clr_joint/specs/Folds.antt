@@ -6,7 +6,7 @@ use Rattle.clr_season.specs.Season.{Season, demands, store_at, weight}
 use Rattle.clr_model.specs.JointFold.{fold_stores}
 use Rattle.clr_model.specs.Revenue.{earn, full_stocks}
 use Rattle.clr_storedp.specs.Rows.{AreWithin}
-use Rattle.clr_joint.specs.Stocks.{lists_of, place_in, stocks_at}
+use Rattle.clr_model.specs.Stocks.{lists_of, place_in, stocks_at}
 
 -- the first weights times (the item of what their demands leave and what the sold units earn), where a unit of stock lies a stride apart
 abbrev pub cell_sum : List ℕ → ℕ → List ℤ → ℕ → ℕ → ℕ → ℕ → ℤ

@@ -1,4 +1,3 @@
-pub mod Stocks
 pub mod Tables
 pub mod BySummary
 pub mod Folds

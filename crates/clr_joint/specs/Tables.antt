@@ -11,7 +11,7 @@ use Rattle.clr_model.specs.Expected.{Encloses}
 use Rattle.clr_model.specs.JointValue.{joint_low_at, joint_top_at, joint_rung_at, joint_table}
 use Rattle.clr_model.specs.Policies.{Abides}
 use Rattle.clr_model.specs.Revenue.{full_stocks}
-use Rattle.clr_joint.specs.Stocks.{all_stocks}
+use Rattle.clr_model.specs.Stocks.{all_stocks}
 
 -- The weeks done, the summary, the value rounded down and the value rounded up at each list of stocks, in the order of lists, and, where
 -- a week is to come, the choice at each.

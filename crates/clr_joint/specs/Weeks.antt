@@ -5,7 +5,7 @@ use Rattle.clr_model.specs.Revenue.{full_stocks}
 use Rattle.clr_storedp.specs.Rows.{AreRows, AreWithin, WeekRows}
 use Rattle.clr_storedp.specs.Weeks.{live_week}
 use Rattle.clr_joint.specs.BySummary.{by_place, summary_choice, summary_value}
-use Rattle.clr_joint.specs.Stocks.{lists_of}
+use Rattle.clr_model.specs.Stocks.{lists_of}
 
 -- The values at each live summary after so many weeks, and the choices where a week is to come.
 pub record IsWeek (div : ℤ → ℕ → ℤ) (season : Season) (done : ℕ) (week : WeekRows) : Type 0 where

@@ -1,6 +1,6 @@
 // The averages of one week, one for each summary after it and list of stocks.
 ghost use Rattle.clr_joint.specs.BySummary.{average_into, by_place, summary_value};
-ghost use Rattle.clr_joint.specs.Stocks.{lists_of, place_in, stocks_at};
+ghost use Rattle.clr_model.specs.Stocks.{lists_of, place_in, stocks_at};
 ghost use Rattle.clr_model.specs.Fits.{fits};
 ghost use Rattle.clr_model.specs.JointWeek.{joint_base, joint_weighed};
 ghost use Rattle.clr_model.specs.Revenue.{full_stocks};
@@ -10,19 +10,19 @@ ghost use Rattle.clr_storedp.specs.Weeks.{live_week};
 ghost use Rattle.std.specs.Prelude.{◌≡◌, ℕ, suc, ◌<◌, ◌≤◌, ◌+◌, ◌*◌, ℤ, pos, length, get_or, IfOk, IsTrue};
 
 use crate::fold::fold_row;
-use clr_num::Direction;
+use clr_num::{Direction, Divisor};
 use clr_rules::Summary;
 use clr_season::Season;
 use clr_storedp::row_of;
 use std::alloc::{AllocError, Global};
 
 /// The base to the number of stores: what the chances of a week sum to.
-fn base_of_all(season: &Season) -> i128
+fn base_of_all(season: &Season) -> Divisor
     requires { IsTrue (fits season.now) }
-    ensures value { result ≡ pos (joint_base season.now) }
+    ensures value { result ≡ joint_base season.now }
     ensures facts { IsSeason season.now }
 {
-    i128::from(season.base()).pow(season.stores())
+    Divisor::new(u64::from(season.base()).pow(season.stores()))
 }
 
 /// For each list of stocks the average over a week's joint demands of what all stores earn on a rung and the value in `row` of what
@@ -48,7 +48,7 @@ fn average_row<R: Direction>(
     let base = base_of_all(season);
     let mut averages = Vec::with_capacity(alloc, items.len())?;
     for item in &items {
-        averages.push(R::div(*item, base) as i64)?;
+        averages.push(R::div_by(*item, &base) as i64)?;
     }
     Ok(averages)
 }

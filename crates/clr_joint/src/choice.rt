@@ -1,7 +1,7 @@
 // The greatest over the live rungs, and the least rung that attains it.
 ghost use Rattle.clr_average.specs.Average.{IsWithin};
 ghost use Rattle.clr_joint.specs.BySummary.{average_into, by_place, choice_so_far, costs, summary_choice, summary_value, value_so_far};
-ghost use Rattle.clr_joint.specs.Stocks.{lists_of};
+ghost use Rattle.clr_model.specs.Stocks.{lists_of};
 ghost use Rattle.clr_rules.specs.LiveSummaries.{at_week, is_live_summary, live_pairs};
 ghost use Rattle.clr_model.specs.Revenue.{full_stocks};
 ghost use Rattle.clr_storedp.specs.Rows.{AreRows, AreWithin};

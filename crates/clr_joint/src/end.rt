@@ -1,5 +1,5 @@
 // What the stocks are worth at the end of the season.
-ghost use Rattle.clr_joint.specs.Stocks.{lists_of, stocks_at};
+ghost use Rattle.clr_model.specs.Stocks.{lists_of, stocks_at};
 ghost use Rattle.clr_model.specs.Fits.{fits};
 ghost use Rattle.clr_model.specs.JointValue.{end_value};
 ghost use Rattle.clr_model.specs.Revenue.{full_stocks};

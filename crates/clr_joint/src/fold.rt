@@ -1,7 +1,7 @@
 // The sum over a week's joint demands, folded store by store.
 ghost use Rattle.clr_average.specs.Average.{IsWithin};
 ghost use Rattle.clr_joint.specs.Folds.{AreFolded, IsCell, cell_sum, fold_item, fold_reach};
-ghost use Rattle.clr_joint.specs.Stocks.{lists_of};
+ghost use Rattle.clr_model.specs.Stocks.{lists_of};
 ghost use Rattle.clr_model.specs.Fits.{fits};
 ghost use Rattle.clr_model.specs.Revenue.{full_stocks};
 ghost use Rattle.clr_storedp.specs.Rows.{AreWithin};

@@ -1,7 +1,7 @@
 // The table of all stores together.
 ghost use Rattle.clr_average.specs.Average.{IsWithin};
 ghost use Rattle.clr_joint.specs.Tables.{HasStocks, IsEnclosed, IsJointOf, at_stocks, choices_of, opening, table_pairs, values_of};
-ghost use Rattle.clr_joint.specs.Stocks.{lists_of, place_in};
+ghost use Rattle.clr_model.specs.Stocks.{lists_of, place_in};
 ghost use Rattle.clr_model.specs.Expected.{Tops};
 ghost use Rattle.clr_model.specs.Fits.{fits};
 ghost use Rattle.clr_model.specs.JointValue.{joint_low, joint_rung_at, joint_top};

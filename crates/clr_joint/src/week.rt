@@ -1,6 +1,6 @@
 // One week of a table of all stores.
 ghost use Rattle.clr_joint.specs.BySummary.{average_into, by_place, summary_choice, summary_value};
-ghost use Rattle.clr_joint.specs.Stocks.{lists_of};
+ghost use Rattle.clr_model.specs.Stocks.{lists_of};
 ghost use Rattle.clr_joint.specs.Weeks.{AreWeeks, IsWeek};
 ghost use Rattle.clr_model.specs.Fits.{fits};
 ghost use Rattle.clr_model.specs.Revenue.{full_stocks};

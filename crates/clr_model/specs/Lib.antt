@@ -14,3 +14,4 @@ pub mod JointFold
 pub mod Usage
 pub mod PrefixBound
 pub mod PathNumbers
+pub mod Stocks

@@ -23,4 +23,4 @@ pub use laws::{
 };
 pub use path::Path;
 pub use store_laws::{abiding_nodes_live, bound_tops, covers_top, prefix_bounds, value_by_summary};
-pub use week::{CENT, average_week, gain, relabelling};
+pub use week::{CENT, average_week, gain, relabelling, unit_gain};

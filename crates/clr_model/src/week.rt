@@ -14,8 +14,8 @@ use clr_season::Season;
 /// The units of value in one cent.
 pub const CENT: u64 = 1_000_000;
 
-/// What a unit that is sold on a rung earns, in units of value.
-fn unit_gain(season: &Season, rung: u32) -> u64
+/// What a unit that is sold on a rung earns, in units of value. Rungs are from 1.
+pub fn unit_gain(season: &Season, rung: u32) -> u64
     requires low { 1 ≤ rung }
     requires high { rung ≤ length season.now.rules.prices }
     ensures value { result ≡ cent * price season.now.rules rung }

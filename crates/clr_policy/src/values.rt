@@ -13,7 +13,7 @@ ghost use Rattle.clr_policy.specs.Written.{IsPolicyFor, written};
 use crate::policy::Policy;
 use crate::stock_lists::{Week, weigh_stores};
 use clr_model::CENT;
-use clr_num::Direction;
+use clr_num::{Direction, Divisor};
 use clr_season::Season;
 use std::alloc::{AllocError, Global};
 
@@ -50,12 +50,14 @@ fn rows_at_end(
 
 /// Divides each value by a base, rounded in the direction `R`.
 fn divide_values<R: Direction>(values: &mut [i128], base: u64)
-    requires { 1 ≤ base }
+    requires some { 1 ≤ base }
+    requires most { base ≤ most_joint_base }
     ensures each { (k : ℕ) → k < length values.old → at_place values.new k ≡ R.quotient (at_place values.old k) base }
     ensures within { (reach : ℕ) → AllWithin (base * reach) values.old → AllWithin reach values.new }
 {
+    let divisor = Divisor::new(base);
     for value in values.iter_mut() {
-        *value = R::div(*value, i128::from(base));
+        *value = R::div_by(*value, &divisor);
     }
 }
 

@@ -2,14 +2,12 @@
 ghost use Rattle.std.specs.Prelude.{◌≡◌, ℕ, suc, ◌+◌, ◌*◌, ◌≤◌, ◌<◌, pos, length, get_or, sum, EachIndex};
 ghost use Rattle.clr_average.specs.Average.{IsWithin, row_weighed};
 ghost use Rattle.clr_model.specs.PathValue.{weighed};
-ghost use Rattle.clr_model.specs.Revenue.{cent};
-ghost use Rattle.clr_rules.specs.Rules.{price};
 ghost use Rattle.clr_search.specs.Along.{StaysAbove};
 ghost use Rattle.clr_season.specs.Season.{IsPlace};
 
 use crate::demands::Demands;
 use clr_average::{average_row, average_values, lower_values};
-use clr_model::{CENT, relabelling};
+use clr_model::{relabelling, unit_gain};
 use clr_num::Direction;
 use clr_season::Season;
 
@@ -27,16 +25,6 @@ fn reach_of(values: &[i64]) -> u64
         reach = reach.max(value.unsigned_abs());
     }
     reach
-}
-
-/// What a unit that is sold on a rung earns, in units of value.
-fn unit_gain(season: &Season, rung: u32) -> u64
-    requires low { 1 ≤ rung }
-    requires high { rung ≤ length season.now.rules.prices }
-    ensures value { result ≡ cent * price season.now.rules rung }
-    ensures range { result ≤ 10000000000000 }
-{
-    CENT * season.price(rung)
 }
 
 /// Writes, for each stock, the average over the demands of what the sold units earn and the value of what is left.

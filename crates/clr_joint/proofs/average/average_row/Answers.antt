@@ -10,22 +10,13 @@ use Rattle.clr_joint.proofs.Folds.{pushed, pushed_size}
 use Rattle.clr_joint.proofs.Limits.{base_some, few_stores}
 use Rattle.clr_joint.proofs.average.average_row.Goals as goal
 
-some_pos : (n : ℕ) (z : ℤ) → 1 ≤ n → z ≡ pos n → pos 1 ≤ℤ z
-some_pos n z some is = omega (arith, ints)
-
-pub div-requires : goal.div-requires
-div-requires g c =
-    let fits : SFits w128 c.base_of_all-base.result = search rules in
-    some_pos (joint_base c.args.season.now) _ (base_some c.args.season.now c.base_of_all-base.ensures.facts c.requires.fits) (to_z-of_z w128 c.base_of_all-base.result fits ∙ c.base_of_all-base.ensures.value)
-
-pub overflow_cast-div : goal.overflow_cast-div
-overflow_cast-div g c =
-    let fits : SFits w128 c.base_of_all-base.result = search rules in
-    let result_fits : SFits w128 c.div.result = search rules in
+pub overflow_cast-div_by : goal.overflow_cast-div_by
+overflow_cast-div_by g c =
+    let result_fits : SFits w128 c.div_by.result = search rules in
     let item_fits : SFits w128 (get_or c.deref-item-items.result.now c.loop-item.item-index (pos 0)) = search rules in
     let lt : c.loop-item.item-index < length c.deref-item-items.result.now = omega (arith, c.loop-item-test.true, c.loop-item.auto.item-index-end) in
-    let is : to_z w128 (of_z w128 c.div.result) ≡ g.R.Direction.quotient (get_or c.deref-item-items.result.now c.loop-item.item-index (pos 0)) (joint_base c.args.season.now)
-    = to_z-of_z w128 c.div.result result_fits ∙ (c.div.ensures ∙ ap₂ (λ n b. g.R.Direction.quotient n (nat_abs b)) (to_z-of_z w128 _ item_fits) (to_z-of_z w128 c.base_of_all-base.result fits ∙ c.base_of_all-base.ensures.value)) in
+    let is : to_z w128 (of_z w128 c.div_by.result) ≡ g.R.Direction.quotient (get_or c.deref-item-items.result.now c.loop-item.item-index (pos 0)) (joint_base c.args.season.now)
+    = to_z-of_z w128 c.div_by.result result_fits ∙ (c.div_by.ensures ∙ ap₂ (λ n b. g.R.Direction.quotient n b) (to_z-of_z w128 _ item_fits) c.base_of_all-base.ensures.value) in
     subst (FitsSigned w64) (sym is)
     (within_64 _ 2000000000000000000 (omega arith)
     (quotient_small g.R.Direction.leans g.R.Direction.quotient g.met.R.Direction.laws c.args.season.now _ (few_stores c.args.season.now c.base_of_all-base.ensures.facts c.requires.fits) (base_some c.args.season.now c.base_of_all-base.ensures.facts c.requires.fits)
@@ -33,16 +24,15 @@ overflow_cast-div g c =
 
 pub loop-item-preserved : goal.loop-item-preserved
 loop-item-preserved g c =
-    let fits : SFits w128 c.base_of_all-base.result = search rules in
-    let result_fits : SFits w128 c.div.result = search rules in
+    let result_fits : SFits w128 c.div_by.result = search rules in
     let item_fits : SFits w128 (get_or c.deref-item-items.result.now c.loop-item.item-index (pos 0)) = search rules in
     let lt : c.loop-item.item-index < length c.deref-item-items.result.now = omega (arith, c.loop-item-test.true, c.loop-item.auto.item-index-end) in
-    let is : to_z w128 (of_z w128 c.div.result) ≡ g.R.Direction.quotient (get_or c.deref-item-items.result.now c.loop-item.item-index (pos 0)) (joint_base c.args.season.now)
-    = to_z-of_z w128 c.div.result result_fits ∙ (c.div.ensures ∙ ap₂ (λ n b. g.R.Direction.quotient n (nat_abs b)) (to_z-of_z w128 _ item_fits) (to_z-of_z w128 c.base_of_all-base.result fits ∙ c.base_of_all-base.ensures.value)) in
+    let is : to_z w128 (of_z w128 c.div_by.result) ≡ g.R.Direction.quotient (get_or c.deref-item-items.result.now c.loop-item.item-index (pos 0)) (joint_base c.args.season.now)
+    = to_z-of_z w128 c.div_by.result result_fits ∙ (c.div_by.ensures ∙ ap₂ (λ n b. g.R.Direction.quotient n b) (to_z-of_z w128 _ item_fits) c.base_of_all-base.ensures.value) in
     let small : IsWithin 2000000000000000000 (g.R.Direction.quotient (get_or c.deref-item-items.result.now c.loop-item.item-index (pos 0)) (joint_base c.args.season.now))
     = quotient_small g.R.Direction.leans g.R.Direction.quotient g.met.R.Direction.laws c.args.season.now _ (few_stores c.args.season.now c.base_of_all-base.ensures.facts c.requires.fits) (base_some c.args.season.now c.base_of_all-base.ensures.facts c.requires.fits)
     (subst (λ (xs : List ℤ). (k : ℕ) → k < length xs → IsWithin (fold_reach c.args.season.now.base (length c.args.season.now.stores)) (get_or xs k (pos 0))) (sym c.deref-item-items.ensures.value) c.in_ok-items.ensures.within c.loop-item.item-index lt) in
-    let read : to_z w64 (of_z w64 (to_z w128 (of_z w128 c.div.result))) ≡ g.R.Direction.quotient (get_or c.deref-item-items.result.now c.loop-item.item-index (pos 0)) (joint_base c.args.season.now)
+    let read : to_z w64 (of_z w64 (to_z w128 (of_z w128 c.div_by.result))) ≡ g.R.Direction.quotient (get_or c.deref-item-items.result.now c.loop-item.item-index (pos 0)) (joint_base c.args.season.now)
     = ap (λ z. to_z w64 (of_z w64 z)) is ∙ to_z-of_z w64 _ (within_64 _ 2000000000000000000 (omega arith) small) in
     record {
       size = ap length c.in_ok-push.ensures.items ∙ pushed_size c.loop-item.averages.items c.loop-item.item-index _ c.loop-item.invariant.size;

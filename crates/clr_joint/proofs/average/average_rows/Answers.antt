@@ -8,7 +8,7 @@ use Rattle.clr_storedp.proofs.Lists.{got, row_end}
 use Rattle.clr_storedp.proofs.TableLemmas.{row_small}
 use Rattle.clr_storedp.proofs.WeekRows.{on_ladder, row_more}
 use Rattle.clr_joint.specs.BySummary.{average_into, by_place}
-use Rattle.clr_joint.specs.Stocks.{place_in, stocks_at}
+use Rattle.clr_model.specs.Stocks.{place_in, stocks_at}
 use Rattle.clr_joint.proofs.Averages.{average_is, within_append}
 use Rattle.clr_joint.proofs.average.average_rows.Goals as goal
 

@@ -1,7 +1,7 @@
 use Rattle.std.proofs.Common.{◌≡◌, ◌-◌, length, ap, ◌∙◌, arith}
 use Rattle.clr_model.specs.Revenue.{full_stocks}
 use Rattle.clr_joint.specs.BySummary.{choice_so_far, value_so_far}
-use Rattle.clr_joint.specs.Stocks.{stocks_at}
+use Rattle.clr_model.specs.Stocks.{stocks_at}
 use Rattle.clr_joint.proofs.Values.{choice_is, value_is}
 use Rattle.clr_joint.proofs.choice.best_row.Goals as goal
 

@@ -8,7 +8,7 @@ use Rattle.clr_rules.specs.LiveSummaries.{at_week, leads_at}
 use Rattle.clr_model.specs.Revenue.{full_stocks}
 use Rattle.clr_storedp.specs.BySummary.{best_value}
 use Rattle.clr_joint.specs.BySummary.{lead_value}
-use Rattle.clr_joint.specs.Stocks.{stocks_at}
+use Rattle.clr_model.specs.Stocks.{stocks_at}
 use Rattle.clr_joint.proofs.Rungs.{led_choice, led_value, none_led}
 use Rattle.clr_joint.proofs.choice.try_rung.Goals as goal
 

@@ -2,7 +2,7 @@ use Rattle.std.proofs.Common.{◌≡◌, ℕ, suc, ◌<◌, ◌≤◌, ◌+◌, 
 use Rattle.clr_season.specs.Season.{store_at}
 use Rattle.clr_model.specs.Revenue.{cent}
 use Rattle.clr_joint.specs.Folds.{last_units}
-use Rattle.clr_joint.specs.Stocks.{lists_of}
+use Rattle.clr_model.specs.Stocks.{lists_of}
 use Rattle.clr_joint.proofs.Ends.{worths_more}
 use Rattle.clr_joint.proofs.Grid.{last_lists_more, last_lists_most}
 use Rattle.clr_joint.proofs.Limits.{few_stores, lists_most, lists_some}

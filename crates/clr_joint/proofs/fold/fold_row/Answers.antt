@@ -2,7 +2,7 @@ use Rattle.std.proofs.Common.{◌≡◌, ℕ, ◌<◌, ◌≤◌, ◌+◌, ℤ, 
 use Rattle.std.proofs.Math.Nat.{pow-suc}
 use Rattle.clr_season.specs.Season.{store_at}
 use Rattle.clr_joint.specs.Folds.{fold_item, last_units}
-use Rattle.clr_joint.specs.Stocks.{lists_of}
+use Rattle.clr_model.specs.Stocks.{lists_of}
 use Rattle.clr_joint.proofs.FoldRows.{folded_more}
 use Rattle.clr_joint.proofs.Grid.{last_lists_more, last_lists_most}
 use Rattle.clr_joint.proofs.Limits.{lists_most, lists_some, power_most}

@@ -1,6 +1,6 @@
 use Rattle.std.proofs.Common.{◌≡◌, ◌^◌}
 use Rattle.clr_joint.specs.Folds.{AreFolded, last_units}
-use Rattle.clr_joint.specs.Stocks.{lists_of}
+use Rattle.clr_model.specs.Stocks.{lists_of}
 use Rattle.clr_joint.proofs.fold.fold_row.Given as goal
 
 abbrev pub invariant-loop-folded : goal.invariant-loop-folded

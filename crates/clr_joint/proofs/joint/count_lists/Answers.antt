@@ -1,5 +1,5 @@
 use Rattle.std.proofs.Common.{◌≤◌, ◌+◌, ◌*◌, drop, get_or, arith}
-use Rattle.clr_joint.specs.Stocks.{lists_of}
+use Rattle.clr_model.specs.Stocks.{lists_of}
 use Rattle.clr_joint.proofs.Limits.{lists_some}
 use Rattle.clr_joint.proofs.Places.{factor_most, lists_on}
 use Rattle.clr_joint.proofs.joint.count_lists.Goals as goal

@@ -1,5 +1,5 @@
 use Rattle.std.proofs.Common.{◌≤◌, ◌+◌, ◌*◌, drop, get_or, arith}
-use Rattle.clr_joint.specs.Stocks.{lists_of, place_in}
+use Rattle.clr_model.specs.Stocks.{lists_of, place_in}
 use Rattle.clr_joint.proofs.Limits.{lists_some}
 use Rattle.clr_joint.proofs.Places.{place_most, place_on}
 use Rattle.clr_joint.proofs.joint.place_of_stocks.Goals as goal

@@ -1,5 +1,5 @@
 use Rattle.std.proofs.Common.{◌≡◌, ◌+◌, ◌*◌, drop}
-use Rattle.clr_joint.specs.Stocks.{lists_of, place_in}
+use Rattle.clr_model.specs.Stocks.{lists_of, place_in}
 use Rattle.clr_joint.proofs.joint.place_of_stocks.Given as goal
 
 abbrev pub invariant-loop-index : goal.invariant-loop-index

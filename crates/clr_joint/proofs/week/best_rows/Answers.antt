@@ -4,7 +4,7 @@ use Rattle.clr_storedp.specs.Rows.{AreRows}
 use Rattle.clr_storedp.proofs.Lists.{got, written_back}
 use Rattle.clr_storedp.proofs.WeekRows.{item_live, row_more}
 use Rattle.clr_joint.specs.BySummary.{by_place, summary_choice, summary_value}
-use Rattle.clr_joint.specs.Stocks.{stocks_at}
+use Rattle.clr_model.specs.Stocks.{stocks_at}
 use Rattle.clr_joint.proofs.week.best_rows.Goals as goal
 
 pub best_row-requires-clause-here : goal.best_row-requires-clause-here

@@ -5,7 +5,7 @@ use Rattle.clr_model.specs.Revenue.{full_stocks}
 use Rattle.clr_storedp.specs.Rows.{AreRows, WeekRows}
 use Rattle.clr_storedp.specs.Weeks.{live_week}
 use Rattle.clr_joint.specs.BySummary.{by_place, summary_choice, summary_value}
-use Rattle.clr_joint.specs.Stocks.{lists_of}
+use Rattle.clr_model.specs.Stocks.{lists_of}
 use Rattle.clr_joint.specs.Weeks.{IsWeek}
 use Rattle.clr_joint.proofs.Limits.{few_stores}
 use Rattle.clr_joint.proofs.WeekRows.{values_small}

@@ -6,7 +6,7 @@ use Rattle.clr_storedp.specs.Rows.{AreRows}
 use Rattle.clr_storedp.specs.Weeks.{live_week}
 use Rattle.clr_storedp.proofs.WeekRows.{live_at, row_more, rows_as}
 use Rattle.clr_joint.specs.BySummary.{by_place, summary_value}
-use Rattle.clr_joint.specs.Stocks.{lists_of, stocks_at}
+use Rattle.clr_model.specs.Stocks.{lists_of, stocks_at}
 use Rattle.clr_joint.proofs.Limits.{few_stores}
 use Rattle.clr_joint.proofs.WeekRows.{end_is, values_small}
 use Rattle.clr_joint.proofs.week.end_week.Goals as goal

@@ -1,6 +1,6 @@
 use Rattle.std.proofs.Common.{◌≡◌, ℕ, ◌≤◌, List, ap, sym, ◌∙◌, subst}
 use Rattle.clr_joint.specs.Rows.{entries_of}
-use Rattle.clr_joint.specs.Stocks.{lists_of}
+use Rattle.clr_model.specs.Stocks.{lists_of}
 use Rattle.clr_joint.proofs.Built.{close, enclosed, first_choice, kept_is, opening_are, tops_all}
 use Rattle.clr_joint.proofs.Limits.{lists_most}
 use Rattle.clr_joint.proofs.Tables.{table_is}
