@@ -1,10 +1,12 @@
 -- What a built table gives.
-use Rattle.std.proofs.Common.{◌≡◌, ℕ, zero, suc, ◌+◌, ◌-◌, ◌<◌, ◌≤◌, ◌||◌, Bool, true, false, cond, ℤ, pos, ◌+ℤ◌, ◌≤ℤ◌, List, [], ◌∷◌, length, map, get_or, slice_get, Some, IsTrue, nat_lt, nat_eq, refl, ap, ap₂, sym, ◌∙◌, subst, arith}
+use Rattle.std.proofs.Common.{◌≡◌, ℕ, zero, suc, ◌+◌, ◌-◌, ◌*◌, ◌^◌, ◌<◌, ◌≤◌, ◌||◌, Bool, true, false, cond, ℤ, pos, ◌+ℤ◌, ◌*ℤ◌, ◌≤ℤ◌, List, [], ◌∷◌, length, map, get_or, slice_get, Some, IsTrue, nat_lt, nat_eq, refl, ap, ap₂, sym, ◌∙◌, subst, arith}
 use Rattle.std.proofs.lemmas.Bool.{lt-ltb}
 use Rattle.std.specs.Cmp.Lexicographic.{pointwise, same_text}
 use Rattle.std.proofs.lemmas.Cmp.{nat_list_eq_equiv}
 use Rattle.std.specs.List.{find, list_any}
 use Rattle.std.specs.Option.{option_map_or}
+use lib.IntN.{*ℤ_comm}
+use Rattle.clr_num.specs.DirectionLaws.{add_mul, floor_is_direction, linear}
 use Rattle.clr_num.specs.Lists.{numbers}
 use Rattle.clr_num.specs.Rounding.{ceil, floor}
 use Rattle.clr_rules.specs.declared.season_rules.Summary.{Summary}
@@ -15,17 +17,17 @@ use Rattle.clr_rules.proofs.LiveLists.{same_self}
 use Rattle.clr_season.specs.Season.{Season, IsSeason}
 use Rattle.clr_model.specs.Fits.{fits}
 use Rattle.clr_model.specs.JointValue.{joint_low, joint_rung_at, joint_table, joint_top, joint_value_at}
-use Rattle.clr_model.specs.Revenue.{full_stocks}
+use Rattle.clr_model.specs.Revenue.{cent, full_stocks}
 use Rattle.clr_storedp.specs.Rows.{IsInside, WeekRows, place_of, row_at, week_at}
 use Rattle.clr_storedp.proofs.Lists.{got_inside}
 use Rattle.clr_storedp.proofs.TableLemmas.{get_or-numbers}
 use Rattle.clr_joint.specs.Rows.{IsKept, entries_of}
 use Rattle.clr_model.specs.Stocks.{all_stocks, lists_of, place_in, stocks_at}
-use Rattle.clr_joint.specs.Tables.{Entry, HasStocks, IsEnclosed, IsJointOf, at_stocks, choices_of, is_at, opening}
+use Rattle.clr_joint.specs.Tables.{Entry, HasStocks, IsEnclosed, IsJointOf, IsNearBest, at_stocks, choices_of, is_at, opening}
 use Rattle.clr_joint.specs.Weeks.{AreWeeks}
 use Rattle.clr_joint.proofs.Grid.{AreHeld, all_stocks_are, held_self, last_list, place_inside, stocks_back}
 use Rattle.clr_joint.proofs.Limits.{lists_most, lists_some}
-use Rattle.clr_model.specs.Expected.{Encloses, Tops}
+use Rattle.clr_model.specs.Expected.{den, season_earned, Encloses, Tops}
 use Rattle.clr_model.proofs.JointBounds.{joint_table_enclosed_lem, joint_tops_lem, joint_values_close_lem}
 use Rattle.clr_joint.proofs.Tables.{among_live, inside_is, opening_is, value_row}
 
@@ -147,3 +149,16 @@ close season table is any values =
     let all : season.rules.weeks - 0 ≡ season.rules.weeks = omega arith in
     subst (λ (p : ℤ × ℤ). p.1 ≤ℤ (p.0 +ℤ pos season.rules.weeks)) (sym values)
     (subst (λ n. joint_top season ≤ℤ (joint_low season +ℤ pos n)) all (joint_values_close_lem season [] (full_stocks season) is any))
+
+scaled : (k : ℕ) (a b : ℤ) → a ≤ℤ b → (a *ℤ pos k) ≤ℤ (b *ℤ pos k)
+scaled k a b h = rw (*ℤ_comm a (pos k), *ℤ_comm b (pos k)) (floor_is_direction.scales k a b h)
+
+pub near_best : (season : Season) → IsSeason season → is_live season.rules [] ≡ true → IsNearBest season
+near_best season is any tree abides =
+    let all : season.rules.weeks - 0 ≡ season.rules.weeks = omega arith in
+    let near : joint_top season ≤ℤ (joint_low season +ℤ pos season.rules.weeks) = subst (λ n. joint_top season ≤ℤ (joint_low season +ℤ pos n)) all (joint_values_close_lem season [] (full_stocks season) is any) in
+    let most : (pos cent *ℤ season_earned season tree) ≤ℤ (joint_top season *ℤ den season season.rules.weeks) = joint_tops_lem season is tree abides in
+    let least : (joint_low season *ℤ den season season.rules.weeks) ≤ℤ (pos cent *ℤ season_earned season (joint_table season)) = (joint_table_enclosed_lem season is any).encloses.least in
+    let wide : (joint_top season *ℤ den season season.rules.weeks) ≤ℤ ((joint_low season +ℤ pos season.rules.weeks) *ℤ den season season.rules.weeks) = scaled (season.base ^ (length season.stores * season.rules.weeks)) (joint_top season) (joint_low season +ℤ pos season.rules.weeks) near in
+    let split : (joint_low season +ℤ pos season.rules.weeks) *ℤ den season season.rules.weeks ≡ joint_low season *ℤ den season season.rules.weeks +ℤ pos season.rules.weeks *ℤ den season season.rules.weeks = add_mul (joint_low season) (pos season.rules.weeks) (den season season.rules.weeks) in
+    omega (arith, linear)

@@ -1,5 +1,5 @@
 -- The table of all stores together: an entry for each live summary.
-use Rattle.std.specs.Prelude.{◌≡◌, ℕ, ◌-◌, Bool, ◌&&◌, ◌==◌, nat_eq, if◌then◌else◌, nat_lt, ℤ, pos, List, [], length, get_or, map, IsTrue}
+use Rattle.std.specs.Prelude.{◌≡◌, ℕ, ◌-◌, Bool, ◌&&◌, ◌==◌, nat_eq, if◌then◌else◌, nat_lt, ℤ, pos, ◌+ℤ◌, ◌*ℤ◌, ◌≤ℤ◌, List, [], length, get_or, map, IsTrue}
 use Rattle.std.specs.List.{find, list_any}
 use Rattle.std.specs.Cmp.Lexicographic.{pointwise}
 use Rattle.std.specs.Option.{option_map_or}
@@ -7,10 +7,10 @@ use Rattle.clr_rules.specs.declared.season_rules.Summary.{Summary}
 use Rattle.clr_rules.specs.LiveSummaries.{live_pairs, same_summary}
 use Rattle.clr_rules.specs.Rules.{is_live, summary}
 use Rattle.clr_season.specs.Season.{Season}
-use Rattle.clr_model.specs.Expected.{Encloses}
+use Rattle.clr_model.specs.Expected.{den, season_earned, Encloses}
 use Rattle.clr_model.specs.JointValue.{joint_low_at, joint_top_at, joint_rung_at, joint_table}
-use Rattle.clr_model.specs.Policies.{Abides}
-use Rattle.clr_model.specs.Revenue.{full_stocks}
+use Rattle.clr_model.specs.Policies.{Abides, Tree}
+use Rattle.clr_model.specs.Revenue.{cent, full_stocks}
 use Rattle.clr_model.specs.Stocks.{all_stocks}
 
 -- The weeks done, the summary, the value rounded down and the value rounded up at each list of stocks, in the order of lists, and, where
@@ -69,3 +69,9 @@ pub record IsJointOf (season : Season) (table : List Entry) : Type 0 where
 pub record IsEnclosed (season : Season) (table : List Entry) : Type 0 where
   pub abides : Abides season (joint_table season)
   pub encloses : Encloses season (opening table).0 (opening table).1 (joint_table season)
+
+-- no rule-abiding policy earns more than the table policy and a unit for each week
+abbrev pub IsNearBest : Season → Type 0
+IsNearBest season =
+    (tree : Tree) → Abides season tree →
+    (pos cent *ℤ season_earned season tree) ≤ℤ (pos cent *ℤ season_earned season (joint_table season) +ℤ pos season.rules.weeks *ℤ den season season.rules.weeks)

@@ -1,6 +1,6 @@
 // The table of all stores together.
 ghost use Rattle.clr_average.specs.Average.{IsWithin};
-ghost use Rattle.clr_joint.specs.Tables.{HasStocks, IsEnclosed, IsJointOf, at_stocks, choices_of, opening, table_pairs, values_of};
+ghost use Rattle.clr_joint.specs.Tables.{HasStocks, IsEnclosed, IsJointOf, IsNearBest, at_stocks, choices_of, opening, table_pairs, values_of};
 ghost use Rattle.clr_model.specs.Stocks.{lists_of, place_in};
 ghost use Rattle.clr_model.specs.Expected.{Tops};
 ghost use Rattle.clr_model.specs.Fits.{fits};
@@ -116,7 +116,7 @@ impl Joint {
     ///
     /// No policy that keeps the rules earns more than the table's value rounded up at the opening. The policy that takes the table's
     /// choice at each node keeps the rules and earns at least the value rounded down there. The two lie at most a unit apart for
-    /// each week.
+    /// each week, and so no policy that keeps the rules earns more than the table's one and a unit for each week.
     ///
     /// # Errors
     /// Where memory is wanting.
@@ -130,6 +130,7 @@ impl Joint {
         ensures tops { IfOk result (λ joint. Tops season.now (opening joint).1) }
         ensures encloses { IfOk result (λ joint. IsEnclosed season.now joint) }
         ensures close { IfOk result (λ joint. (opening joint).1 ≤ℤ ((opening joint).0 +ℤ pos season.now.rules.weeks)) }
+        ensures near_best { IfOk result (λ _. IsNearBest season.now) }
     {
         let units = opening_units(alloc, season)?;
         let width = count_lists(&units);

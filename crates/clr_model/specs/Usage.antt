@@ -1,4 +1,4 @@
--- How often a store takes each rung in each week where it is paid multipliers and takes the rungs that attain its own value. Masses
+-- How often a store takes each rung in each week where it is paid multipliers and takes the least rung that attains its own value. Masses
 -- are counted in parts of a million and rounded down.
 use Rattle.std.specs.Prelude.{ℕ, zero, suc, ◌*◌, ◌/◌, ◌==◌, ◌&&◌, if◌then◌else◌, List, [], unwrap_or}
 use Rattle.std.specs.List.{find, sum_by}

@@ -75,7 +75,8 @@ impl Mult {
     }
 
     /// A step: each entry goes `q` times against the direction of its usage. It moves by at most 10^6 times `q`,
-    /// so by at most 10^14.
+    /// so by at most 10^14. The two tables are of one size, `q` is at most 10^8, and no entry is larger than 9 * 10^15. The
+    /// rule is that of docs/model.md, "The descent".
     ///
     /// # Errors
     /// Where memory is wanting; the table is then as before.

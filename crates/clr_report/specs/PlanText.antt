@@ -24,7 +24,7 @@ path_line rungs = line (codes "path" ∷ map decimal rungs)
 abbrev pub prices_line : List ℕ → List ℕ
 prices_line prices = line (codes "prices" ∷ map cents_text prices)
 
--- the least and the greatest value of the path's revenue, in units of 10^-8
+-- two numbers between which the path's expected revenue lies, in units of 10^-8
 abbrev pub revenue_line : ℤ → ℤ → List ℕ
 revenue_line low high = line (codes "revenue" ∷ money_text low ∷ money_text high ∷ [])
 

@@ -34,14 +34,15 @@ pub struct PlanFacts {
     pub low: i128,
     /// The path's value rounded up.
     pub high: i128,
-    /// Whether no path that obeys the rules has a greater low value, as far as the search has shown it.
+    /// Whether the search took all tight prefixes: then no path that obeys the rules has a greater low value, and each other
+    /// with that value comes later in the order of lists.
     pub best: bool,
     /// What no policy that obeys the rules earns more than.
     pub bound: i128,
-    /// The step of the descent that gave the bound, from 0.
+    /// The first step of the descent that gave the bound, from 0.
     pub at_step: u32,
-    /// Where all stores were solved together: what they earn at most, rounded down and rounded up, and the rung of the first
-    /// week, from 1.
+    /// Where all stores were solved together: what they earn at most, rounded down and rounded up, and the rung that the
+    /// table policy begins with, from 1.
     pub exact: Option<(i128, i128, u32)>,
 }
 

@@ -11,7 +11,7 @@ use clr_model::{relabelling, unit_gain};
 use clr_num::Direction;
 use clr_season::Season;
 
-/// A size up to which values may pass for the sums of `average_values`.
+/// The greatest `reach` that `average_values` takes.
 const MOST_REACH: u64 = 1_000_000_000_000_000_000;
 
 /// A size that no value passes: the greatest of their sizes.

@@ -17,7 +17,7 @@ use clr_season::Season;
 use std::alloc::{AllocError, Global};
 use std::marker::{Model, PhantomData};
 
-/// What a store can earn at most, paid multipliers, from each live summary and stock on, and the rung that attains it; each
+/// What a store can earn at most, paid multipliers, from each live summary and stock on, and the least rung that attains it; each
 /// week's average is rounded in the direction `R`. It is seen as the list with an entry for each live summary, by the weeks
 /// done and then in the order of summaries.
 #[derive(Drop)]

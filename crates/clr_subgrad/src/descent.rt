@@ -19,13 +19,16 @@ use clr_season::Season;
 use clr_storedp::{StoreTable, bound, tables};
 use std::alloc::{AllocError, Global};
 
-/// Multipliers of a run of steps: the bound over all policies that they give, in units, the stores' tables under them, in
-/// order, and the number of steps that led to them.
+/// Multipliers of a run of steps, and what they give.
 #[derive(Drop)]
 pub struct Descent {
+    /// The multipliers, in units.
     pub mult: Mult,
+    /// The bound that they give: no rule-abiding policy earns more, in units.
     pub bound: i128,
+    /// The stores' tables under them, in the stores' order.
     pub tables: Vec<StoreTable<Up>>,
+    /// How many steps led to them, from 0.
     pub at_step: u32,
 }
 
@@ -121,8 +124,9 @@ fn advance(
     arrived(alloc, season, live, mult, step)
 }
 
-/// The run of so many steps from no multipliers, at the first of its tables whose bound is least. `live` is of the season,
-/// some path obeys, `a` is the word of the step, from 1 to 10, and there are at most 100 steps.
+/// The run of so many steps from no multipliers, at the first of its multipliers whose bound is least. `live` is of the season,
+/// some path obeys, `a` is the word of the step, from 1 to 10, and there are at most 100 steps. The rule is that of
+/// docs/model.md, "The descent".
 ///
 /// # Errors
 /// Where memory is wanting.
@@ -143,6 +147,7 @@ pub fn descend(
     ensures tables { IfOk result (λ descent. AreTablesOf ceil (mult_at descent.mult) season.now descent.tables.items) }
     ensures of_season { IfOk result (λ descent. AreOfSeason season.now descent.mult) }
     ensures small { IfOk result (λ descent. AreSmall descent.mult) }
+    ensures near { IfOk result (λ descent. EachEntry descent.mult (λ store week rung. IsSmall 9000000000000000 (mult_at descent.mult store week rung))) }
     ensures size { IfOk result (λ descent. IsWithin 100000000000000000000 descent.bound) }
     ensures tops { IfOk result (λ descent. Tops season.now descent.bound) }
 {

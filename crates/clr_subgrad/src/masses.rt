@@ -114,8 +114,8 @@ fn use_store(
     Ok(())
 }
 
-/// How often the stores take each rung in each week under multipliers, where each store takes the rungs that attain its own
-/// value: masses in parts of a million, swept forward over the live summaries and the stocks. `live` is of the season, some
+/// How often the stores take each rung in each week under multipliers, where each store takes the least rung that attains
+/// its own value: masses in parts of a million, swept forward over the live summaries and the stocks. `live` is of the season, some
 /// path obeys, and `tables` has the table of each store, in order, under these multipliers.
 ///
 /// # Errors

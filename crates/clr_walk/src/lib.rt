@@ -11,8 +11,8 @@ mod walk;
 
 pub use walk::{Problem, Searched, is_better, search};
 
-/// Where all tight prefixes were taken, and no path has a value above the bound of a prefix that it begins with, the path found
-/// is the best of all paths.
+/// Where all tight prefixes of the value of a seed were taken, and no path has a value above the bound of a prefix that it begins
+/// with, the path found is the best of all paths.
 pub fn best_of_all()
     ensures { BestOfAll }
 {}

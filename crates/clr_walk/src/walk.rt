@@ -190,8 +190,10 @@ pub struct Searched {
     pub best: bool,
 }
 
-/// Searches the tight prefixes: the lists of rungs, each of whose shorter ones has a bound of at least the value of `first`. It
-/// takes `nodes` of them at most. `first` is the best of any paths to begin with, and `state` that of the empty list.
+/// Searches the tight prefixes: the live nonempty lists of rungs of which each proper nonempty prefix has a bound of at least
+/// the value of `first`, in the order of lists, each before its extensions. It takes `nodes` of them at most. `first` is the best
+/// of any paths to begin with, and `state` that of the empty list. The answer is the best of `first` and of the whole paths
+/// among those taken, the first in the order of lists where some are equal, and whether no tight prefix is left.
 ///
 /// # Errors
 /// Where memory is wanting.

@@ -38,3 +38,8 @@ pub returns-clause-small : goal.returns-clause-small
 returns-clause-small c =
     let few : c.loop-done.best.at_step ≤ 100 = omega (arith, c.loop-done.invariant.least.within, c.loop-done.auto.done-end, c.requires.steps) in
     small_wider (run_reach c.loop-done.best.at_step) 10000000000000000 c.loop-done.best.mult (omega (arith, reach_most c.loop-done.best.at_step few)) c.loop-done.invariant.best_is.small
+
+pub returns-clause-near : goal.returns-clause-near
+returns-clause-near c =
+    let few : c.loop-done.best.at_step ≤ 100 = omega (arith, c.loop-done.invariant.least.within, c.loop-done.auto.done-end, c.requires.steps) in
+    small_wider (run_reach c.loop-done.best.at_step) 9000000000000000 c.loop-done.best.mult (omega (arith, reach_most c.loop-done.best.at_step few)) c.loop-done.invariant.best_is.small

@@ -1,7 +1,7 @@
 use Rattle.std.proofs.Common.{◌≡◌, ℕ, ◌≤◌, List, ap, sym, ◌∙◌, subst}
 use Rattle.clr_joint.specs.Rows.{entries_of}
 use Rattle.clr_model.specs.Stocks.{lists_of}
-use Rattle.clr_joint.proofs.Built.{close, enclosed, first_choice, kept_is, opening_are, tops_all}
+use Rattle.clr_joint.proofs.Built.{close, enclosed, first_choice, kept_is, near_best, opening_are, tops_all}
 use Rattle.clr_joint.proofs.Limits.{lists_most}
 use Rattle.clr_joint.proofs.Tables.{table_is}
 use Rattle.clr_joint.proofs.joint.Joint.build.Goals as goal
@@ -61,3 +61,6 @@ returns-clause-close c =
     let width : c.count_lists-width.result ≡ lists_of c.in_ok-units.units.items = c.count_lists-width.ensures ∙ ap lists_of c.deref.ensures.value in
     let values = opening_are c.args.season.now c.in_ok-copy.field-0 c.in_ok-units.units.items c.count_lists-width.result c.in_ok-lows.lows.items c.in_ok-tops.tops.items facts c.requires.fits is c.requires.any c.in_ok-units.ensures.units width c.in_ok-lows.ensures c.in_ok-tops.ensures in
     close c.args.season.now (entries_of c.in_ok-copy.field-0 c.in_ok-units.units.items c.count_lists-width.result c.in_ok-lows.lows.items c.in_ok-tops.tops.items) facts c.requires.any values
+
+pub returns-clause-near_best : goal.returns-clause-near_best
+returns-clause-near_best c = near_best c.args.season.now c.opening_units.ensures.facts c.requires.any
