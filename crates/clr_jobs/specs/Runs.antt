@@ -19,6 +19,7 @@ use Rattle.clr_report.specs.declared.note.Doc.TheVariants as d
 use Rattle.clr_report.specs.declared.note.Cause.{Cause}
 use Rattle.clr_report.specs.declared.note.Cause.TheVariants.{Words, Refused, NoPath, ReadFault, Absent, WriteFault, TooLong, Cells, Size, Base, CertificateNo, PolicyJson, PolicyShape, PolicyUnknown, PolicyRule, Memory}
 use Rattle.clr_jobs.specs.Checking.{CheckReports, check_ends}
+use Rattle.clr_jobs.specs.FileEnds.{limit_of}
 use Rattle.clr_jobs.specs.Judging.{JudgeReports, judge_ends}
 use Rattle.clr_jobs.specs.Making.{MakeGives, made_docs}
 use Rattle.clr_jobs.specs.Outputs.{Fails, Leaves, Outputs}
@@ -158,7 +159,7 @@ ReadEnds files ask taken ShelfRose NoPath = NoneObeys files ask
 ReadEnds files ask taken ShelfRose (ReadFault doc) = ShelfRose × ReachesDoc files ask doc
 ReadEnds files ask taken ShelfRose (Absent doc) = ByFiles files ask (Absent doc)
 ReadEnds files ask taken ShelfRose (WriteFault doc) = ⊥
-ReadEnds files ask taken ShelfRose (TooLong doc max) = (max < taken) × ByFiles files ask (TooLong doc max)
+ReadEnds files ask taken ShelfRose (TooLong doc max) = (max ≡ limit_of doc) × (max < taken) × ReachesDoc files ask doc × ByFiles files ask (TooLong doc max)
 ReadEnds files ask taken ShelfRose (Cells found) = ByFiles files ask (Cells found)
 ReadEnds files ask taken ShelfRose (Size found) = ByFiles files ask (Size found)
 ReadEnds files ask taken ShelfRose Base = ByFiles files ask Base
