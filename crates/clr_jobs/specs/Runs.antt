@@ -2,7 +2,7 @@
 use Rattle.std.specs.Prelude.{◌≡◌, ◌≢◌, ◌⊎◌, ◌∷◌, [], ℕ, ◌<◌, IfSome, List, Option, Some, None, Result, Ok, Err, if◌then◌else◌}
 use Rattle.std.specs.Option.{option_map_or}
 use Rattle.clr_io.specs.Files.{Files}
-use Rattle.clr_words.specs.Asked.{Ask, asked_of}
+use Rattle.clr_words.specs.Asked.{Ask, IsAsk, asked_of}
 use Rattle.clr_words.specs.declared.asked.Job.{Job}
 use Rattle.clr_words.specs.declared.asked.Job.TheVariants as j
 use Rattle.clr_rules.specs.FirstPath.{NoPathObeys}
@@ -103,9 +103,9 @@ GivesBy j.Make files ask outputs = MakeGives ask outputs
 abbrev pub Gives : Option Files → Ask → Outputs → Type 0
 Gives files ask outputs = GivesBy ask.job files ask outputs
 
--- Something is asked, and something holds of what a whole run of it writes.
+-- Something is asked, each number within its limits, and something holds of what a whole run of it writes.
 abbrev pub Writes : Option Files → List (List ℕ) → (Outputs → Type 0) → Type 0
-Writes files words Holds = (ask : Ask) × (outputs : Outputs) × (asked_of words ≡ Some ask) × Gives files ask outputs × Holds outputs
+Writes files words Holds = (ask : Ask) × (outputs : Outputs) × (asked_of words ≡ Some ask) × IsAsk ask × Gives files ask outputs × Holds outputs
 
 -- After a fault of an output those before it stand whole, of it a front or no file, and nothing of those behind it.
 abbrev pub LeavesOutputs : Option Files → List (List ℕ) → Option Files → Option Files → Option (List ℕ) → Option (List ℕ) → Cause → Type 0

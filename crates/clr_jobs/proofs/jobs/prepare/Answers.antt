@@ -8,7 +8,7 @@ use Rattle.clr_jobs.proofs.jobs.prepare.Goals as goal
 
 pub returns-in-Make-clause-writes : goal.returns-in-Make-clause-writes
 returns-in-Make-clause-writes g c =
-    if-ok c.ready_make.result _ _ (λ ready gives. (ask_of c.in_ok-asked.asked, outputs_of ready, c.in_ok-asked.ensures.asked, gives (g.H.Shelf.files c.args.shelf.now), refl)) c.ready_make.ensures.gives
+    if-ok c.ready_make.result _ _ (λ ready gives. (ask_of c.in_ok-asked.asked, outputs_of ready, c.in_ok-asked.ensures.asked, c.in_ok-asked.ensures.facts, gives (g.H.Shelf.files c.args.shelf.now), refl)) c.ready_make.ensures.gives
 
 pub returns-in-Make-clause-passes : goal.returns-in-Make-clause-passes
 returns-in-Make-clause-passes g c =
