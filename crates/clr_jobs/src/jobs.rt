@@ -276,7 +276,7 @@ fn write_outputs<D: Desk, O: Sink>(
     ensures ok { OnOk result (Wrote (outputs_of ready.now) (D.made desk.old) (D.made desk.new) (O.written out.old) (O.written out.new)) }
     ensures none { docs_ready ready.now ≡ [] → desk.new ≡ desk.old }
     ensures ends { (ending : Cause) → IsErrOf result ending → (ending ≡ Cause.Memory) ⊎ ((doc : Doc) × (ending ≡ Cause.WriteFault doc)) }
-    ensures memory { IsErrOf result Cause.Memory → (O.written out.new ≡ O.written out.old) × (desk.new ≡ desk.old) }
+    ensures memory { IsErrOf result Cause.Memory → (out.new ≡ out.old) × (desk.new ≡ desk.old) }
     ensures failed { (doc : Doc) → IsErrOf result (Cause.WriteFault doc) → Fails (docs_ready ready.now) (Rose (D.faults desk.old) (D.faults desk.new)) (Rose (O.faults out.old) (O.faults out.new)) doc }
     ensures leaves { (doc : Doc) → IsErrOf result (Cause.WriteFault doc) → Leaves (docs_ready ready.now) (outputs_of ready.now) (D.made desk.old) (D.made desk.new) (O.written out.old) (O.written out.new) doc }
     ensures around { O.around out.new ≡ O.around out.old }
@@ -308,7 +308,7 @@ pub fn work<H: Shelf, D: Desk, O: Sink>(
     ensures passes { OnOk result (IfSome (H.files shelf.old) (λ held. ending_asked held (map string_bytes words.now) ≡ None)) }
     ensures caused { (ending : Cause) → IsErrOf result ending → Caused (H.files shelf.old) (map string_bytes words.now) (H.taken shelf.new) (Rose (H.faults shelf.old) (H.faults shelf.new)) (Rose (D.faults desk.old) (D.faults desk.new)) (Rose (O.faults out.old) (O.faults out.new)) ending }
     ensures leaves { (ending : Cause) → IsErrOf result ending → LeavesOutputs (H.files shelf.old) (map string_bytes words.now) (D.made desk.old) (D.made desk.new) (O.written out.old) (O.written out.new) ending }
-    ensures quiet { (ending : Cause) → IsErrOf result ending → ((doc : Doc) → ending ≢ Cause.WriteFault doc) → (O.written out.new ≡ O.written out.old) × (desk.new ≡ desk.old) }
+    ensures quiet { (ending : Cause) → IsErrOf result ending → ((doc : Doc) → ending ≢ Cause.WriteFault doc) → (out.new ≡ out.old) × (desk.new ≡ desk.old) }
     ensures desk { docs_asked (map string_bytes words.now) ≡ [] → desk.new ≡ desk.old }
     ensures around { O.around out.new ≡ O.around out.old }
     ensures files { H.files shelf.new ≡ H.files shelf.old }
