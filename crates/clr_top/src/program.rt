@@ -1,6 +1,6 @@
 //! The program's one call: it does what the words ask, over any shelf, desk and sinks.
 
-ghost use Rattle.std.specs.Prelude.{◌≡◌, ◌≢◌, ◌⊎◌, ◌≤◌, [], IfSome, Some, None, map, string_bytes};
+ghost use Rattle.std.specs.Prelude.{◌≡◌, ◌≢◌, ◌⊎◌, ◌+◌, ◌≤◌, [], IfSome, Some, None, map, string_bytes};
 ghost use Rattle.clr_io.specs.Causes.{Rose};
 ghost use Rattle.clr_io.specs.Files.{Files};
 ghost use Rattle.clr_jobs.specs.Outputs.{Fails, Wrote};
@@ -66,9 +66,13 @@ pub fn run<H: Shelf, D: Desk, O: Sink, N: Sink>(
     // A season is made unless an output fails or memory is wanting, whatever the shelf holds.
     ensures makes { MakesSeason (map string_bytes words.now) → (result ≡ Status.Ok) ⊎ ((result ≡ Status.WriteFault) ⊎ (result ≡ Status.Memory)) }
 
+    // Of no file more is taken than the longest may have, and one buffer. Where memory is wanting, it may be that none was opened.
+    ensures within { ReadsSeason (map string_bytes words.now) → (H.taken shelf.new ≤ 268_435_456 + 65_536) ⊎ ((result ≡ Status.Memory) × (shelf.new ≡ shelf.old)) }
+
     // What is as before.
     ensures quiet { result ≢ Status.Ok → result ≢ Status.WriteFault → (out.new ≡ out.old) × (desk.new ≡ desk.old) }
     ensures desk { docs_asked (map string_bytes words.now) ≡ [] → desk.new ≡ desk.old }
+    ensures shelf { ¬ ReadsSeason (map string_bytes words.now) → shelf.new ≡ shelf.old }
     ensures around { O.around out.new ≡ O.around out.old }
     ensures note_around { N.around note.new ≡ N.around note.old }
     ensures files { H.files shelf.new ≡ H.files shelf.old }
