@@ -52,7 +52,7 @@ module _ (job : Job) (ends : Season → Ask → Files → Option Cause) (behind 
   further-ends doc taken before mid now (Refused named_doc row column why) reads named first given = absurd given
   further-ends doc taken before mid now NoPath reads named first given = absurd given
   further-ends doc taken before mid now (ReadFault failed) reads named first (same, rose) = (rose_later before mid now first rose, reached doc failed reads named same)
-  further-ends doc taken before mid now (Absent lacking) reads named first given = says (Absent lacking) reads given
+  further-ends doc taken before mid now (Absent lacking) reads named first (same, given) = (reached doc lacking reads named same, says (Absent lacking) reads given)
   further-ends doc taken before mid now (WriteFault failed) reads named first given = given
   further-ends doc taken before mid now (TooLong long max) reads named first (same, limit, more, given) = (limit ∙ ap limit_of (sym same), more, reached doc long reads named same, says (TooLong long max) reads given)
   further-ends doc taken before mid now (Cells found) reads named first given = absurd given

@@ -154,10 +154,10 @@ NoneObeys files ask = (ask.job ≡ j.Plan) × OfSeason files ask (λ season. NoP
 -- taken of the open file in the end; and whether the shelf's faults rose.
 abbrev pub ReadEnds : Option Files → Ask → ℕ → Type 0 → Cause → Type 0
 ReadEnds files ask taken ShelfRose Words = ⊥
-ReadEnds files ask taken ShelfRose (Refused doc row column why) = ByFiles files ask (Refused doc row column why)
+ReadEnds files ask taken ShelfRose (Refused doc row column why) = ReachesDoc files ask doc × ByFiles files ask (Refused doc row column why)
 ReadEnds files ask taken ShelfRose NoPath = NoneObeys files ask
 ReadEnds files ask taken ShelfRose (ReadFault doc) = ShelfRose × ReachesDoc files ask doc
-ReadEnds files ask taken ShelfRose (Absent doc) = ByFiles files ask (Absent doc)
+ReadEnds files ask taken ShelfRose (Absent doc) = ReachesDoc files ask doc × ByFiles files ask (Absent doc)
 ReadEnds files ask taken ShelfRose (WriteFault doc) = ⊥
 ReadEnds files ask taken ShelfRose (TooLong doc max) = (max ≡ limit_of doc) × (max < taken) × ReachesDoc files ask doc × ByFiles files ask (TooLong doc max)
 ReadEnds files ask taken ShelfRose (Cells found) = ByFiles files ask (Cells found)
