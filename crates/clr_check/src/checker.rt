@@ -1,9 +1,10 @@
 // The checker of a certificate, line by line.
 ghost use Rattle.clr_cert.specs.Accepts.{claims_of, first_no, lines_no};
 ghost use Rattle.clr_cert.specs.Reading.{most_line};
+ghost use Rattle.clr_cert.specs.declared.no.No.{No};
 ghost use Rattle.clr_check.specs.Standing.{IsClaimOf, IsLine, IsRest, Stands, ended_text, is_end, kept_claims, kind_at_end, no_at, refused};
 ghost use Rattle.clr_season.specs.Season.{Season};
-ghost use Rattle.std.specs.Prelude.{◌≡◌, ℕ, ◌<◌, List, [], ◌∷◌, ◌++◌, length, Some, None, Err, IfOk, MatchResult};
+ghost use Rattle.std.specs.Prelude.{◌≡◌, ℕ, ◌<◌, List, [], ◌∷◌, ◌++◌, length, Some, None, Err, IfOk, IsErrOf, MatchResult};
 
 use crate::faults::Fault;
 use crate::rest::Rest;
@@ -111,6 +112,8 @@ impl<'a> Checker<'a> {
         ensures stands { (season : Season) (lines : List (List ℕ)) → Stands season lines self.old → Stands season (lines ++ line.now ∷ []) self.new }
         ensures answer { (season : Season) (lines : List (List ℕ)) → Stands season lines self.old →
             MatchResult result (λ _. lines_no season (lines ++ line.now ∷ []) ≡ None) (λ no. lines_no season (lines ++ line.now ∷ []) ≡ Some no) }
+        ensures refuses { (no : No) → IsErrOf result no → self.new.no ≡ Some no }
+        ensures again { (no : No) → self.old.no ≡ Some no → (result ≡ Err no) × (self.new ≡ self.old) }
     {
         if let Some(no) = self.no {
             return Err(no);
@@ -145,6 +148,8 @@ impl<'a> Checker<'a> {
         ensures stands { (season : Season) (lines : List (List ℕ)) (line : List ℕ) → IsLine line → most_line < length line → Stands season lines self.old → Stands season (lines ++ line ∷ []) self.new }
         ensures answer { (season : Season) (lines : List (List ℕ)) (line : List ℕ) → IsLine line → most_line < length line → Stands season lines self.old →
             MatchResult result (λ _. lines_no season (lines ++ line ∷ []) ≡ None) (λ no. lines_no season (lines ++ line ∷ []) ≡ Some no) }
+        ensures refuses { (no : No) → IsErrOf result no → self.new.no ≡ Some no }
+        ensures again { (no : No) → self.old.no ≡ Some no → (result ≡ Err no) × (self.new ≡ self.old) }
     {
         if let Some(no) = self.no {
             return Err(no);
@@ -176,8 +181,9 @@ impl<'a> Checker<'a> {
     /// # Errors
     /// The first fault of the whole certificate: that of the first line that is refused, or what is wrong at the end.
     pub(crate) fn finish(self, rest: Rest) -> Result<Claims, No>
-        ensures { (season : Season) (lines : List (List ℕ)) (bytes : List ℕ) → Stands season lines self.entry → IsLine bytes → IsRest rest bytes →
+        ensures answer { (season : Season) (lines : List (List ℕ)) (bytes : List ℕ) → Stands season lines self.entry → IsLine bytes → IsRest rest bytes →
             MatchResult result (IsClaimOf season (ended_text lines ++ bytes)) (λ no. first_no season (ended_text lines ++ bytes) ≡ Some no) }
+        ensures again { (no : No) → self.entry.no ≡ Some no → result ≡ Err no }
     {
         if let Some(no) = self.no {
             return Err(no);
@@ -198,8 +204,9 @@ impl<'a> Checker<'a> {
     /// # Errors
     /// The fault of the first line that is refused; and where none is and lines are missing, that of the first missing line.
     pub fn close(self) -> Result<Claims, No>
-        ensures { (season : Season) (lines : List (List ℕ)) → Stands season lines self.entry →
+        ensures answer { (season : Season) (lines : List (List ℕ)) → Stands season lines self.entry →
             MatchResult result (IsClaimOf season (ended_text lines)) (λ no. first_no season (ended_text lines) ≡ Some no) }
+        ensures again { (no : No) → self.entry.no ≡ Some no → result ≡ Err no }
     {
         self.finish(Rest::Nothing)
     }

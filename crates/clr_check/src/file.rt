@@ -7,7 +7,7 @@ ghost use Rattle.clr_check.specs.Standing.{Stands};
 ghost use Rattle.clr_io.specs.Causes.{Rose};
 ghost use Rattle.clr_io.specs.Files.{held};
 ghost use Rattle.clr_season.specs.Season.{Season};
-ghost use Rattle.std.specs.Prelude.{◌≡◌, ℕ, ◌+◌, ◌++◌, ◌<◌, ◌≤◌, ◌↔◌, false, length, List, [], None, Some, IfOk, IfSome, IsErrOf, IsOk, IsSomeAnd};
+ghost use Rattle.std.specs.Prelude.{◌≡◌, ℕ, ◌+◌, ◌++◌, ◌<◌, ◌≤◌, ◌↔◌, ◌⊎◌, false, length, List, [], None, Some, IfOk, IfSome, IsErrOf, IsOk, IsSomeAnd};
 
 use crate::checker::Checker;
 use crate::laws::{accepted_claims_hold, accepted_or_refused};
@@ -76,6 +76,7 @@ fn feed_all<H: Shelf>(
     ensures answers { IsOfReading result }
     ensures too_long { IsErrOf result (CheckError.TooLong 268_435_456) ↔ (268_435_456 < H.taken shelf.new) }
     ensures longer { IsErrOf result (CheckError.TooLong 268_435_456) → IfSome (H.rest shelf.old) (λ behind. 268_435_456 < lines.old.taken + length behind) }
+    ensures within { H.taken shelf.new ≤ 268_435_456 + 65_536 }
     ensures failed { IsErrOf result CheckError.Failed → Rose (H.faults shelf.old) (H.faults shelf.new) }
     ensures files { H.files shelf.new ≡ H.files shelf.old }
     ensures later { H.faults shelf.old ≤ H.faults shelf.new }
@@ -111,6 +112,7 @@ fn feed_file<H: Shelf>(
     ensures absent { IfSome (H.files shelf.old) (λ files. IsErrOf result CheckError.Absent ↔ ((held name.now files ≡ None) × (¬ IsErrOf result CheckError.Failed))) }
     ensures too_long { IsErrOf result (CheckError.TooLong 268_435_456) ↔ (268_435_456 < H.taken shelf.new) }
     ensures longer { IsErrOf result (CheckError.TooLong 268_435_456) → IfSome (H.files shelf.old) (λ files. IsSomeAnd (held name.now files) (λ bytes. 268_435_456 < length bytes)) }
+    ensures within { H.taken shelf.new ≤ 268_435_456 + 65_536 }
     ensures no_fault { IsErrOf result CheckError.Absent → H.faults shelf.new ≡ H.faults shelf.old }
     ensures files { H.files shelf.new ≡ H.files shelf.old }
     ensures later { H.faults shelf.old ≤ H.faults shelf.new }
@@ -168,8 +170,11 @@ pub fn check_file<H: Shelf>(
     ensures limit { (max : ℕ) → IsErrOf result (CheckError.TooLong max) → max ≡ 268_435_456 }
     ensures longer { IsErrOf result (CheckError.TooLong 268_435_456) → IfSome (H.files shelf.old) (λ files. IsSomeAnd (held name.now files) (λ bytes. 268_435_456 < length bytes)) }
 
+    // It stops once more than the limit was taken: within one more buffer. Where memory is wanting, nothing is opened.
+    ensures within { (H.taken shelf.new ≤ 268_435_456 + 65_536) ⊎ (IsErrOf result CheckError.Memory × (shelf.new ≡ shelf.old)) }
+
     // What stays.
-    ensures memory { IsErrOf result CheckError.Memory → (H.faults shelf.new ≡ H.faults shelf.old) × (H.taken shelf.new ≡ H.taken shelf.old) × (H.rest shelf.new ≡ H.rest shelf.old) }
+    ensures memory { IsErrOf result CheckError.Memory → shelf.new ≡ shelf.old }
     ensures no_fault { IsErrOf result CheckError.Absent → H.faults shelf.new ≡ H.faults shelf.old }
     ensures files { H.files shelf.new ≡ H.files shelf.old }
     ensures later { H.faults shelf.old ≤ H.faults shelf.new }

@@ -93,7 +93,7 @@ few_taken taken refusal too_long = elim (cases_lt most_cert taken) [
 pub error_ends : (files : Option Files) (season : Season) (ask : Ask) (taken faults_old faults_new : ℕ) (error : CheckError) → Says files season (cert_path ask) taken faults_old faults_new error →
     EndsBy files (check_ends season ask) Certificate taken faults_old faults_new (ending_unaccepted error)
 error_ends files season ask taken faults_old faults_new c.Failed says = (refl, says.failed refl)
-error_ends files season ask taken faults_old faults_new c.Absent says = absent_said files season ask taken faults_old faults_new says
+error_ends files season ask taken faults_old faults_new c.Absent says = (refl, absent_said files season ask taken faults_old faults_new says)
 error_ends files season ask taken faults_old faults_new (c.TooLong max) says =
     let is : max ≡ 268435456 = says.limit max refl in
     rw is (long_ends files season ask taken (subst (λ (n : ℕ). IsErrOf {T = Claims} {E = CheckError} (Err (c.TooLong n)) (c.TooLong 268435456) ↔ ((268435456 < taken) × ¬ IsErrOf {T = Claims} {E = CheckError} (Err (c.TooLong n)) c.Memory)) is says.too_long)
@@ -101,8 +101,8 @@ error_ends files season ask taken faults_old faults_new (c.TooLong max) says =
   where
     long_ends : (fs : Option Files) (s : Season) (a : Ask) (t : ℕ) → IsErrOf {T = Claims} {E = CheckError} (Err (c.TooLong 268435456)) (c.TooLong 268435456) ↔ ((268435456 < t) × ¬ IsErrOf {T = Claims} {E = CheckError} (Err (c.TooLong 268435456)) c.Memory) →
         IfSome fs (λ all. IsSomeAnd (held (cert_path a) all) (λ bytes. 268435456 < length bytes)) →
-        (268435456 < t) × IfSome fs (λ all. check_ends s a all ≡ Some (TooLong Certificate 268435456))
-    long_ends fs s a t too_long longer = ((too_long.0 refl).0, long_said fs s a longer)
+        EndsBy fs (check_ends s a) Certificate t faults_old faults_new (TooLong Certificate 268435456)
+    long_ends fs s a t too_long longer = (refl, refl, (too_long.0 refl).0, long_said fs s a longer)
 error_ends files season ask taken faults_old faults_new (c.No refusal) says = no_said files season ask taken refusal (few_taken taken refusal says.too_long) (says.read tt) (says.refused tt)
 error_ends files season ask taken faults_old faults_new c.Memory says = tt
 

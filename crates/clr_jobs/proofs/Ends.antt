@@ -1,5 +1,5 @@
 -- How runs end.
-use Rattle.std.proofs.Common.{◌≡◌, ◌<◌, inl, inr, refl, sym, subst, ◌∙◌, ℕ, List, [], Some, None, Bool, true, false}
+use Rattle.std.proofs.Common.{◌≡◌, ◌<◌, ◌≤◌, inl, inr, arith, refl, sym, subst, ◌∙◌, ℕ, List, [], Some, None, Bool, true, false}
 use Rattle.std.specs.Prelude.{◌≢◌, ◌⊎◌, ◌↔◌, IfSome, IsErrOf, IsTrue, Option, Result, Ok, Err}
 use Rattle.clr_io.specs.Files.{Files}
 use Rattle.clr_words.specs.Asked.{Ask, asked_of}
@@ -11,14 +11,17 @@ use Rattle.clr_rules.proofs.FirstPaths.{some_or_none_obeys_lem}
 use Rattle.clr_cert.specs.Accepts.{Accepts}
 use Rattle.clr_cert.specs.Entries.{CertEntries}
 use Rattle.clr_cert.specs.Lines.{cert_text}
-use Rattle.clr_season.specs.Reads.{Stop, absent, refused, season_in, too_long, too_many_cells}
+use Rattle.clr_season.specs.Reads.{ReachesFile, Stop, absent, most_bytes, place_of, refused, season_in, stop_place, too_long, too_many_cells}
 use Rattle.clr_season.specs.Season.{IsSeason, Season}
+use Rattle.clr_season.specs.declared.reads.File.{File}
+use Rattle.clr_season.specs.declared.reads.File.TheVariants as f
 use Rattle.clr_season.specs.declared.reads.SeasonError.TheVariants as e
 use Rattle.clr_report.specs.declared.note.Cause.TheVariants.{NoPath, Memory}
 use Rattle.clr_report.specs.declared.note.Cause.{Cause}
+use Rattle.clr_jobs.specs.FileEnds.{limit_of}
 use Rattle.clr_jobs.specs.Outputs.{Outputs}
 use Rattle.clr_jobs.specs.Plans.{IsPlanText, PlanGives, cert_files}
-use Rattle.clr_jobs.specs.Runs.{ByFiles, Gives, GivesBy, IsSeasonError, OfSeason, ReadEnds, ending_asked, ends_by, job_ends, plan_ends, season_ends, stopped}
+use Rattle.clr_jobs.specs.Runs.{ByFiles, Gives, GivesBy, IsSeasonError, OfSeason, ReachesDoc, ReadEnds, doc_of, ending_asked, ends_by, job_ends, plan_ends, season_ends, stopped}
 
 -- an error that was handed on
 pub same-error : {X : Type 0} (error ending : Cause) → IsErrOf {T = X} {E = Cause} (Err error) ending → error ≡ ending
@@ -53,13 +56,33 @@ stops-so job stops (Some held) ask stop of is = stops held ask stop of is
 by-files : (job : Job) → StopsBySeason job → job ≢ j.Make → (files : Option Files) (ask : Ask) (stop : Stop) → ask.job ≡ job → IfSome files (λ held. season_in held ask.folder ≡ Err stop) → ByFiles files ask (stopped stop)
 by-files job stops reads files ask stop of is = (not-make ask.job job of reads, stops-so job stops files ask stop of is)
 
+-- the most bytes of a file of the season
+limit-of : (file : File) → most_bytes ≡ limit_of (doc_of file)
+limit-of f.Rules = refl
+limit-of f.Calendar = refl
+limit-of f.Ladder = refl
+limit-of f.Stock = refl
+limit-of f.Demand = refl
+
+-- a file that something stands against was reached
+reaches-by : (file : File) (stop : Stop) (given : Result Season Stop) → place_of file ≤ stop_place stop → given ≡ Err stop → ReachesFile file given
+reaches-by file stop given here is = rw is here
+
+reaches-so : (files : Option Files) (ask : Ask) (file : File) (stop : Stop) → place_of file ≤ stop_place stop → IfSome files (λ held. season_in held ask.folder ≡ Err stop) → IfSome files (λ held. ReachesFile file (season_in held ask.folder))
+reaches-so None ask file stop here given = tt
+reaches-so (Some held) ask file stop here given = reaches-by file stop (season_in held ask.folder) here given
+
+reaches : (job : Job) → job ≢ j.Make → (files : Option Files) (ask : Ask) (file : File) (stop : Stop) → ask.job ≡ job → place_of file ≤ stop_place stop → IfSome files (λ held. season_in held ask.folder ≡ Err stop) → ReachesDoc files ask (doc_of file)
+reaches job reads files ask file stop of here given = (not-make ask.job job of reads, inl (file, refl, reaches-so files ask file stop here given))
+
 -- an error of the season that is asked, and why the run ends by it
 pub season-error : (job : Job) → StopsBySeason job → job ≢ j.Make → (files : Option Files) (ask : Ask) (taken : ℕ) (ShelfRose : Type 0) (ending : Cause) → ask.job ≡ job → IsSeasonError files ask.folder taken ShelfRose ending → ReadEnds files ask taken ShelfRose ending
 season-error job stops reads files ask taken ShelfRose ending of (e.Read file, by, given, rose, long) = rw by (rose file refl, (not-make ask.job job of reads, inl (file, refl, given)))
-season-error job stops reads files ask taken ShelfRose ending of (e.Absent file, by, given, rose, long) = rw by (by-files job stops reads files ask (absent file) of given)
-season-error job stops reads files ask taken ShelfRose ending of (e.TooLong file, by, given, rose, long) = rw by (long file refl, by-files job stops reads files ask (too_long file) of given)
+season-error job stops reads files ask taken ShelfRose ending of (e.Absent file, by, given, rose, long) = rw by (reaches job reads files ask file (absent file) of (omega arith) given, by-files job stops reads files ask (absent file) of given)
+season-error job stops reads files ask taken ShelfRose ending of (e.TooLong file, by, given, rose, long) =
+    rw by (limit-of file, long file refl, reaches job reads files ask file (too_long file) of (omega arith) given, by-files job stops reads files ask (too_long file) of given)
 season-error job stops reads files ask taken ShelfRose ending of (e.Refused file row column why, by, given, rose, long) =
-    rw by (by-files job stops reads files ask (refused file (record { row = row; column = column; why = why })) of given)
+    rw by (reaches job reads files ask file (refused file (record { row = row; column = column; why = why })) of (omega arith) given, by-files job stops reads files ask (refused file (record { row = row; column = column; why = why })) of given)
 season-error job stops reads files ask taken ShelfRose ending of (e.Cells found, by, given, rose, long) = rw by (by-files job stops reads files ask (too_many_cells found) of given)
 season-error job stops reads files ask taken ShelfRose ending of (e.Memory, by, given, rose, long) = rw by tt
 

@@ -1,5 +1,5 @@
 -- How runs end by a further file that is read behind the season, and what they give where it is read.
-use Rattle.std.proofs.Common.{◌≡◌, inr, arith, refl, sym, subst, ◌∙◌, ℕ, ◌≤◌, List, [], Some, None}
+use Rattle.std.proofs.Common.{◌≡◌, inr, arith, refl, sym, ap, subst, ◌∙◌, ℕ, ◌≤◌, List, [], Some, None}
 use Rattle.std.specs.Prelude.{◌≢◌, IfSome, Option, Ok}
 use Rattle.clr_io.specs.Causes.{Rose}
 use Rattle.clr_io.specs.Files.{Files}
@@ -12,10 +12,10 @@ use Rattle.clr_report.specs.declared.note.Cause.TheVariants.{Words, Refused, NoP
 use Rattle.clr_report.specs.declared.note.Doc.{Doc}
 use Rattle.clr_report.specs.declared.note.Cause.{Cause}
 use Rattle.clr_jobs.specs.Checking.{CheckReports, check_ends}
-use Rattle.clr_jobs.specs.FileEnds.{EndsBy}
+use Rattle.clr_jobs.specs.FileEnds.{EndsBy, limit_of}
 use Rattle.clr_jobs.specs.Judging.{JudgeReports, judge_ends}
 use Rattle.clr_jobs.specs.Outputs.{Outputs}
-use Rattle.clr_jobs.specs.Runs.{ByFiles, Gives, GivesBy, OfSeason, ReadEnds, ends_by, further_doc, job_ends}
+use Rattle.clr_jobs.specs.Runs.{ByFiles, Gives, GivesBy, OfSeason, ReachesDoc, ReadEnds, ends_by, further_doc, job_ends}
 
 -- a count that rose later rose
 pub rose_later : (before mid now : ℕ) → before ≤ mid → Rose mid now → Rose before now
@@ -41,16 +41,20 @@ module _ (job : Job) (ends : Season → Ask → Files → Option Cause) (behind 
   pub further-passes : IfSome files (λ held. ends season ask held ≡ None) → IfSome files (λ held. ends_by held ask ≡ None)
   further-passes given = passes-so files is given
 
+  -- it reaches the further file
+  reached : (doc asked : Doc) → job ≢ j.Make → further_doc job ≡ Some doc → asked ≡ doc → ReachesDoc files ask asked
+  reached doc asked reads named same =
+      ((λ make. reads (sym of ∙ make)), inr (subst (λ job. further_doc job ≡ Some asked) (sym of) (subst (λ d. further_doc job ≡ Some d) (sym same) named), (season, is, facts, tt)))
+
   -- it ends by the further file
   pub further-ends : (doc : Doc) (taken before mid now : ℕ) (ending : Cause) → job ≢ j.Make → further_doc job ≡ Some doc → before ≤ mid → EndsBy files (ends season ask) doc taken mid now ending → ReadEnds files ask taken (Rose before now) ending
   further-ends doc taken before mid now Words reads named first given = given
   further-ends doc taken before mid now (Refused named_doc row column why) reads named first given = absurd given
   further-ends doc taken before mid now NoPath reads named first given = absurd given
-  further-ends doc taken before mid now (ReadFault failed) reads named first (same, rose) =
-      (rose_later before mid now first rose, ((λ make. reads (sym of ∙ make)), inr (subst (λ job. further_doc job ≡ Some failed) (sym of) (subst (λ d. further_doc job ≡ Some d) (sym same) named), (season, is, facts, tt))))
-  further-ends doc taken before mid now (Absent lacking) reads named first given = says (Absent lacking) reads given
+  further-ends doc taken before mid now (ReadFault failed) reads named first (same, rose) = (rose_later before mid now first rose, reached doc failed reads named same)
+  further-ends doc taken before mid now (Absent lacking) reads named first (same, given) = (reached doc lacking reads named same, says (Absent lacking) reads given)
   further-ends doc taken before mid now (WriteFault failed) reads named first given = given
-  further-ends doc taken before mid now (TooLong long max) reads named first given = (given.0, says (TooLong long max) reads given.1)
+  further-ends doc taken before mid now (TooLong long max) reads named first (same, limit, more, given) = (limit ∙ ap limit_of (sym same), more, reached doc long reads named same, says (TooLong long max) reads given)
   further-ends doc taken before mid now (Cells found) reads named first given = absurd given
   further-ends doc taken before mid now (Size found) reads named first given = says (Size found) reads given
   further-ends doc taken before mid now Base reads named first given = says Base reads given

@@ -8,4 +8,5 @@ pub mod Judged
 pub mod Making
 pub mod Reporting
 pub mod Tabled
+pub mod Taking
 pub mod Writing

@@ -64,7 +64,7 @@ leaves-next named doc docs before mid now name bytes files is leaves = inr (subs
 
 -- what holds of the outputs that stand ready holds of what a whole run writes
 pub written : (files : Option Files) (words : List (List ℕ)) (ready : Outputs) (Holds : Outputs → Type 0) → Writes files words (λ outputs. outputs ≡ ready) → Holds ready → Writes files words Holds
-written files words ready Holds (ask, outputs, asked, gives, is) holds = (ask, outputs, asked, gives, subst Holds (sym is) holds)
+written files words ready Holds (ask, outputs, asked, facts, gives, is) holds = (ask, outputs, asked, facts, gives, subst Holds (sym is) holds)
 
 -- why outputs that stand ready are not written
 pub writing-caused :

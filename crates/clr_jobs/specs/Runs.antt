@@ -2,7 +2,7 @@
 use Rattle.std.specs.Prelude.{◌≡◌, ◌≢◌, ◌⊎◌, ◌∷◌, [], ℕ, ◌<◌, IfSome, List, Option, Some, None, Result, Ok, Err, if◌then◌else◌}
 use Rattle.std.specs.Option.{option_map_or}
 use Rattle.clr_io.specs.Files.{Files}
-use Rattle.clr_words.specs.Asked.{Ask, asked_of}
+use Rattle.clr_words.specs.Asked.{Ask, IsAsk, asked_of}
 use Rattle.clr_words.specs.declared.asked.Job.{Job}
 use Rattle.clr_words.specs.declared.asked.Job.TheVariants as j
 use Rattle.clr_rules.specs.FirstPath.{NoPathObeys}
@@ -19,6 +19,7 @@ use Rattle.clr_report.specs.declared.note.Doc.TheVariants as d
 use Rattle.clr_report.specs.declared.note.Cause.{Cause}
 use Rattle.clr_report.specs.declared.note.Cause.TheVariants.{Words, Refused, NoPath, ReadFault, Absent, WriteFault, TooLong, Cells, Size, Base, CertificateNo, PolicyJson, PolicyShape, PolicyUnknown, PolicyRule, Memory}
 use Rattle.clr_jobs.specs.Checking.{CheckReports, check_ends}
+use Rattle.clr_jobs.specs.FileEnds.{limit_of}
 use Rattle.clr_jobs.specs.Judging.{JudgeReports, judge_ends}
 use Rattle.clr_jobs.specs.Making.{MakeGives, made_docs}
 use Rattle.clr_jobs.specs.Outputs.{Fails, Leaves, Outputs}
@@ -102,9 +103,9 @@ GivesBy j.Make files ask outputs = MakeGives ask outputs
 abbrev pub Gives : Option Files → Ask → Outputs → Type 0
 Gives files ask outputs = GivesBy ask.job files ask outputs
 
--- Something is asked, and something holds of what a whole run of it writes.
+-- Something is asked, each number within its limits, and something holds of what a whole run of it writes.
 abbrev pub Writes : Option Files → List (List ℕ) → (Outputs → Type 0) → Type 0
-Writes files words Holds = (ask : Ask) × (outputs : Outputs) × (asked_of words ≡ Some ask) × Gives files ask outputs × Holds outputs
+Writes files words Holds = (ask : Ask) × (outputs : Outputs) × (asked_of words ≡ Some ask) × IsAsk ask × Gives files ask outputs × Holds outputs
 
 -- After a fault of an output those before it stand whole, of it a front or no file, and nothing of those behind it.
 abbrev pub LeavesOutputs : Option Files → List (List ℕ) → Option Files → Option Files → Option (List ℕ) → Option (List ℕ) → Cause → Type 0
@@ -153,12 +154,12 @@ NoneObeys files ask = (ask.job ≡ j.Plan) × OfSeason files ask (λ season. NoP
 -- taken of the open file in the end; and whether the shelf's faults rose.
 abbrev pub ReadEnds : Option Files → Ask → ℕ → Type 0 → Cause → Type 0
 ReadEnds files ask taken ShelfRose Words = ⊥
-ReadEnds files ask taken ShelfRose (Refused doc row column why) = ByFiles files ask (Refused doc row column why)
+ReadEnds files ask taken ShelfRose (Refused doc row column why) = ReachesDoc files ask doc × ByFiles files ask (Refused doc row column why)
 ReadEnds files ask taken ShelfRose NoPath = NoneObeys files ask
 ReadEnds files ask taken ShelfRose (ReadFault doc) = ShelfRose × ReachesDoc files ask doc
-ReadEnds files ask taken ShelfRose (Absent doc) = ByFiles files ask (Absent doc)
+ReadEnds files ask taken ShelfRose (Absent doc) = ReachesDoc files ask doc × ByFiles files ask (Absent doc)
 ReadEnds files ask taken ShelfRose (WriteFault doc) = ⊥
-ReadEnds files ask taken ShelfRose (TooLong doc max) = (max < taken) × ByFiles files ask (TooLong doc max)
+ReadEnds files ask taken ShelfRose (TooLong doc max) = (max ≡ limit_of doc) × (max < taken) × ReachesDoc files ask doc × ByFiles files ask (TooLong doc max)
 ReadEnds files ask taken ShelfRose (Cells found) = ByFiles files ask (Cells found)
 ReadEnds files ask taken ShelfRose (Size found) = ByFiles files ask (Size found)
 ReadEnds files ask taken ShelfRose Base = ByFiles files ask Base

@@ -1,5 +1,5 @@
 // The report on the certificate of a season.
-ghost use Rattle.std.specs.Prelude.{◌≡◌, ◌≤◌, IfOk, IfSome, IsErrOf, None, string_bytes};
+ghost use Rattle.std.specs.Prelude.{◌≡◌, ◌+◌, ◌≤◌, IfOk, IfSome, IsErrOf, None, string_bytes};
 ghost use Rattle.clr_cert.specs.Accepts.{claims_of};
 ghost use Rattle.clr_report.specs.CheckText.{check_text};
 ghost use Rattle.clr_report.specs.declared.note.Cause.{Cause};
@@ -69,6 +69,7 @@ pub(crate) fn check_season<H: Shelf>(
     ensures reports { IfOk result (λ text. CheckReports (H.files shelf.old) season.now (ask_of asked.now) text.items) }
     ensures passes { IfOk result (λ text. IfSome (H.files shelf.old) (λ held. check_ends season.now (ask_of asked.now) held ≡ None)) }
     ensures ends { (ending : Cause) → IsErrOf result ending → EndsBy (H.files shelf.old) (check_ends season.now (ask_of asked.now)) Doc.Certificate (H.taken shelf.new) (H.faults shelf.old) (H.faults shelf.new) ending }
+    ensures within { H.taken shelf.old ≤ 268_435_456 + 65_536 → H.taken shelf.new ≤ 268_435_456 + 65_536 }
     ensures files { H.files shelf.new ≡ H.files shelf.old }
     ensures later { H.faults shelf.old ≤ H.faults shelf.new }
 {

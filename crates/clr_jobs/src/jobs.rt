@@ -1,6 +1,6 @@
 // What is asked is made ready, and then written.
 
-ghost use Rattle.std.specs.Prelude.{◌≡◌, ◌≢◌, ◌⊎◌, ◌≤◌, [], Contains, IfOk, IfSome, IsErrOf, OnOk, Ok, Some, None, Option, map, string_bytes};
+ghost use Rattle.std.specs.Prelude.{◌≡◌, ◌≢◌, ◌⊎◌, ◌+◌, ◌≤◌, [], Contains, IfOk, IfSome, IsErrOf, OnOk, Ok, Some, None, Option, map, string_bytes};
 ghost use Rattle.clr_io.specs.Causes.{Rose};
 ghost use Rattle.clr_io.specs.Files.{Files};
 ghost use Rattle.clr_report.specs.declared.note.Cause.{Cause};
@@ -11,7 +11,7 @@ ghost use Rattle.clr_words.specs.Asked.{IsAsk, ask_of, asked_of};
 ghost use Rattle.clr_words.specs.declared.asked.Job.{Job};
 ghost use Rattle.clr_jobs.specs.Outputs.{Fails, Leaves, LeavesFiles, Wrote, with_files};
 ghost use Rattle.clr_jobs.specs.Ready.{IsPlanReady, IsReady, docs_ready, outputs_of, plan_docs, plan_outputs};
-ghost use Rattle.clr_jobs.specs.Runs.{Caused, EndsBefore, Gives, IsSeasonError, LeavesOutputs, ReadEnds, Writes, doc_of, docs_asked, docs_by, ending_asked, ending_by, ends_by};
+ghost use Rattle.clr_jobs.specs.Runs.{Caused, EndsBefore, Gives, IsSeasonError, LeavesOutputs, ReadEnds, ReadsSeason, Writes, doc_of, docs_asked, docs_by, ending_asked, ending_by, ends_by};
 
 use crate::check::check_season;
 use crate::judge::judge_season;
@@ -85,6 +85,7 @@ fn asked_season<H: Shelf>(alloc: Global, asked: &Asked, shelf: &mut H) -> Result
     ensures season { IfOk result (λ season. IfSome (H.files shelf.old) (λ held. season_in held (string_bytes asked.now.folder) ≡ Ok season)) }
     ensures facts { IfOk result (λ season. IsSeason season) }
     ensures ends { (ending : Cause) → IsErrOf result ending → IsSeasonError (H.files shelf.old) (string_bytes asked.now.folder) (H.taken shelf.new) (Rose (H.faults shelf.old) (H.faults shelf.new)) ending }
+    ensures within { (H.taken shelf.new ≤ 33_554_432 + 65_536) ⊎ (IsErrOf result Cause.Memory × (shelf.new ≡ shelf.old)) }
     ensures files { H.files shelf.new ≡ H.files shelf.old }
     ensures later { H.faults shelf.old ≤ H.faults shelf.new }
 {
@@ -136,6 +137,7 @@ fn ready_plan<H: Shelf>(alloc: Global, asked: Asked, shelf: &mut H) -> Result<Re
     ensures passes { IfOk result (λ ready. IfSome (H.files shelf.old) (λ held. ends_by held (ask_of asked) ≡ None)) }
     ensures ready { IfOk result (λ ready. IsReady ready) }
     ensures ends { (ending : Cause) → IsErrOf result ending → ReadEnds (H.files shelf.old) (ask_of asked) (H.taken shelf.new) (Rose (H.faults shelf.old) (H.faults shelf.new)) ending }
+    ensures within { (H.taken shelf.new ≤ 268_435_456 + 65_536) ⊎ (IsErrOf result Cause.Memory × (shelf.new ≡ shelf.old)) }
     ensures files { H.files shelf.new ≡ H.files shelf.old }
     ensures later { H.faults shelf.old ≤ H.faults shelf.new }
 {
@@ -161,6 +163,7 @@ fn ready_check<H: Shelf>(alloc: Global, asked: &Asked, shelf: &mut H) -> Result<
     ensures passes { IfOk result (λ ready. IfSome (H.files shelf.old) (λ held. ends_by held (ask_of asked.now) ≡ None)) }
     ensures ready { IfOk result (λ ready. IsReady ready) }
     ensures ends { (ending : Cause) → IsErrOf result ending → ReadEnds (H.files shelf.old) (ask_of asked.now) (H.taken shelf.new) (Rose (H.faults shelf.old) (H.faults shelf.new)) ending }
+    ensures within { (H.taken shelf.new ≤ 268_435_456 + 65_536) ⊎ (IsErrOf result Cause.Memory × (shelf.new ≡ shelf.old)) }
     ensures files { H.files shelf.new ≡ H.files shelf.old }
     ensures later { H.faults shelf.old ≤ H.faults shelf.new }
 {
@@ -177,6 +180,7 @@ fn ready_judge<H: Shelf>(alloc: Global, asked: &Asked, shelf: &mut H) -> Result<
     ensures passes { IfOk result (λ ready. IfSome (H.files shelf.old) (λ held. ends_by held (ask_of asked.now) ≡ None)) }
     ensures ready { IfOk result (λ ready. IsReady ready) }
     ensures ends { (ending : Cause) → IsErrOf result ending → ReadEnds (H.files shelf.old) (ask_of asked.now) (H.taken shelf.new) (Rose (H.faults shelf.old) (H.faults shelf.new)) ending }
+    ensures within { (H.taken shelf.new ≤ 268_435_456 + 65_536) ⊎ (IsErrOf result Cause.Memory × (shelf.new ≡ shelf.old)) }
     ensures files { H.files shelf.new ≡ H.files shelf.old }
     ensures later { H.faults shelf.old ≤ H.faults shelf.new }
 {
@@ -205,6 +209,8 @@ fn prepare<H: Shelf>(alloc: Global, words: &[String], shelf: &mut H) -> Result<R
     ensures passes { IfOk result (λ ready. IfSome (H.files shelf.old) (λ held. ending_asked held (map string_bytes words.now) ≡ None)) }
     ensures ready { IfOk result (λ ready. IsReady ready) }
     ensures ends { (ending : Cause) → IsErrOf result ending → EndsBefore (H.files shelf.old) (map string_bytes words.now) (H.taken shelf.new) (Rose (H.faults shelf.old) (H.faults shelf.new)) ending }
+    ensures within { ReadsSeason (map string_bytes words.now) → (H.taken shelf.new ≤ 268_435_456 + 65_536) ⊎ (IsErrOf result Cause.Memory × (shelf.new ≡ shelf.old)) }
+    ensures shelf { ¬ ReadsSeason (map string_bytes words.now) → shelf.new ≡ shelf.old }
     ensures files { H.files shelf.new ≡ H.files shelf.old }
     ensures later { H.faults shelf.old ≤ H.faults shelf.new }
 {
@@ -276,7 +282,7 @@ fn write_outputs<D: Desk, O: Sink>(
     ensures ok { OnOk result (Wrote (outputs_of ready.now) (D.made desk.old) (D.made desk.new) (O.written out.old) (O.written out.new)) }
     ensures none { docs_ready ready.now ≡ [] → desk.new ≡ desk.old }
     ensures ends { (ending : Cause) → IsErrOf result ending → (ending ≡ Cause.Memory) ⊎ ((doc : Doc) × (ending ≡ Cause.WriteFault doc)) }
-    ensures memory { IsErrOf result Cause.Memory → (O.written out.new ≡ O.written out.old) × (desk.new ≡ desk.old) }
+    ensures memory { IsErrOf result Cause.Memory → (out.new ≡ out.old) × (desk.new ≡ desk.old) }
     ensures failed { (doc : Doc) → IsErrOf result (Cause.WriteFault doc) → Fails (docs_ready ready.now) (Rose (D.faults desk.old) (D.faults desk.new)) (Rose (O.faults out.old) (O.faults out.new)) doc }
     ensures leaves { (doc : Doc) → IsErrOf result (Cause.WriteFault doc) → Leaves (docs_ready ready.now) (outputs_of ready.now) (D.made desk.old) (D.made desk.new) (O.written out.old) (O.written out.new) doc }
     ensures around { O.around out.new ≡ O.around out.old }
@@ -308,9 +314,11 @@ pub fn work<H: Shelf, D: Desk, O: Sink>(
     ensures passes { OnOk result (IfSome (H.files shelf.old) (λ held. ending_asked held (map string_bytes words.now) ≡ None)) }
     ensures caused { (ending : Cause) → IsErrOf result ending → Caused (H.files shelf.old) (map string_bytes words.now) (H.taken shelf.new) (Rose (H.faults shelf.old) (H.faults shelf.new)) (Rose (D.faults desk.old) (D.faults desk.new)) (Rose (O.faults out.old) (O.faults out.new)) ending }
     ensures leaves { (ending : Cause) → IsErrOf result ending → LeavesOutputs (H.files shelf.old) (map string_bytes words.now) (D.made desk.old) (D.made desk.new) (O.written out.old) (O.written out.new) ending }
-    ensures quiet { (ending : Cause) → IsErrOf result ending → ((doc : Doc) → ending ≢ Cause.WriteFault doc) → (O.written out.new ≡ O.written out.old) × (desk.new ≡ desk.old) }
+    ensures quiet { (ending : Cause) → IsErrOf result ending → ((doc : Doc) → ending ≢ Cause.WriteFault doc) → (out.new ≡ out.old) × (desk.new ≡ desk.old) }
     ensures desk { docs_asked (map string_bytes words.now) ≡ [] → desk.new ≡ desk.old }
     ensures around { O.around out.new ≡ O.around out.old }
+    ensures within { ReadsSeason (map string_bytes words.now) → (H.taken shelf.new ≤ 268_435_456 + 65_536) ⊎ (IsErrOf result Cause.Memory × (shelf.new ≡ shelf.old)) }
+    ensures shelf { ¬ ReadsSeason (map string_bytes words.now) → shelf.new ≡ shelf.old }
     ensures files { H.files shelf.new ≡ H.files shelf.old }
     ensures later { H.faults shelf.old ≤ H.faults shelf.new }
 {

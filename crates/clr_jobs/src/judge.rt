@@ -1,5 +1,5 @@
 // The report on the policy of a season's folder.
-ghost use Rattle.std.specs.Prelude.{◌≡◌, ◌⊎◌, ◌≤◌, ℕ, IfOk, IfSome, IsErrOf, List, None, Ok, OnOk, Option, Some, length, string_bytes};
+ghost use Rattle.std.specs.Prelude.{◌≡◌, ◌⊎◌, ◌+◌, ◌≤◌, ℕ, IfOk, IfSome, IsErrOf, List, None, Ok, OnOk, Option, Some, length, string_bytes};
 ghost use Rattle.clr_io.specs.Files.{held};
 ghost use Rattle.clr_policy.specs.Judged.{judgement};
 ghost use Rattle.clr_policy.specs.PolicyFile.{policy_of};
@@ -37,6 +37,7 @@ fn fetch<H: Shelf>(alloc: Global, shelf: &mut H, folder: &str) -> Result<Vec<u8>
     ensures bytes { IfOk result (λ v. IfSome (H.files shelf.old) (λ files. held (policy_path folder.now) files ≡ Some v.items)) }
     ensures short { IfOk result (λ v. length v.items ≤ 33554432) }
     ensures ends { (by_bytes : List ℕ → Option Cause) (ending : Cause) → IsErrOf result ending → EndsBy (H.files shelf.old) (λ files. ends_of_file by_bytes (held (policy_path folder.now) files)) Doc.Policy (H.taken shelf.new) (H.faults shelf.old) (H.faults shelf.new) ending }
+    ensures within { H.taken shelf.old ≤ 268_435_456 + 65_536 → H.taken shelf.new ≤ 268_435_456 + 65_536 }
     ensures files { H.files shelf.new ≡ H.files shelf.old }
     ensures later { H.faults shelf.old ≤ H.faults shelf.new }
 {
@@ -136,6 +137,7 @@ pub(crate) fn judge_season<H: Shelf>(
     ensures reports { IfOk result (λ text. JudgeReports (H.files shelf.old) season.now (ask_of asked.now) text.items) }
     ensures passes { IfOk result (λ text. IfSome (H.files shelf.old) (λ held. judge_ends season.now (ask_of asked.now) held ≡ None)) }
     ensures ends { (ending : Cause) → IsErrOf result ending → EndsBy (H.files shelf.old) (judge_ends season.now (ask_of asked.now)) Doc.Policy (H.taken shelf.new) (H.faults shelf.old) (H.faults shelf.new) ending }
+    ensures within { H.taken shelf.old ≤ 268_435_456 + 65_536 → H.taken shelf.new ≤ 268_435_456 + 65_536 }
     ensures files { H.files shelf.new ≡ H.files shelf.old }
     ensures later { H.faults shelf.old ≤ H.faults shelf.new }
 {

@@ -1,5 +1,5 @@
 // The files of a season's folder, each read whole and judged.
-ghost use Rattle.std.specs.Prelude.{◌≡◌, ◌≤◌, ◌<◌, ℕ, IfOk, IfSome, IsErrOf, length, string_bytes};
+ghost use Rattle.std.specs.Prelude.{◌≡◌, ◌⊎◌, ◌+◌, ◌≤◌, ◌<◌, ℕ, IfOk, IfSome, IsErrOf, length, string_bytes};
 ghost use Rattle.clr_io.specs.Causes.{Rose};
 ghost use Rattle.clr_num.specs.Prices.{IsLadder};
 ghost use Rattle.clr_rules.specs.Limits.{AreLimits};
@@ -68,6 +68,7 @@ fn fetch<H: Shelf>(
     ensures short { IfOk result (λ v. length v.items ≤ 33554432) }
     ensures read { (f : File) → IsErrOf result (SeasonError.Read f) → (f ≡ file) × Rose (H.faults shelf.old) (H.faults shelf.new) }
     ensures too_long { (f : File) → IsErrOf result (SeasonError.TooLong f) → 33554432 < H.taken shelf.new }
+    ensures within { (H.taken shelf.new ≤ 33_554_432 + 65_536) ⊎ (IsErrOf result SeasonError.Memory × (shelf.new ≡ shelf.old)) }
     ensures files { H.files shelf.new ≡ H.files shelf.old }
     ensures later { H.faults shelf.old ≤ H.faults shelf.new }
 {
@@ -94,6 +95,7 @@ pub(crate) fn folder_limits<H: Shelf>(
     ensures facts { IfOk result AreLimits }
     ensures read { (f : File) → IsErrOf result (SeasonError.Read f) → (f ≡ File.Rules) × Rose (H.faults shelf.old) (H.faults shelf.new) }
     ensures too_long { (f : File) → IsErrOf result (SeasonError.TooLong f) → 33554432 < H.taken shelf.new }
+    ensures within { (H.taken shelf.new ≤ 33_554_432 + 65_536) ⊎ (IsErrOf result SeasonError.Memory × (shelf.new ≡ shelf.old)) }
     ensures files { H.files shelf.new ≡ H.files shelf.old }
     ensures later { H.faults shelf.old ≤ H.faults shelf.new }
 {
@@ -130,6 +132,7 @@ pub(crate) fn folder_calendar<H: Shelf>(
     ensures weeks { IfOk result (λ c. length c ≡ limits.weeks) }
     ensures read { (f : File) → IsErrOf result (SeasonError.Read f) → (f ≡ File.Calendar) × Rose (H.faults shelf.old) (H.faults shelf.new) }
     ensures too_long { (f : File) → IsErrOf result (SeasonError.TooLong f) → 33554432 < H.taken shelf.new }
+    ensures within { H.taken shelf.old ≤ 33_554_432 + 65_536 → H.taken shelf.new ≤ 33_554_432 + 65_536 }
     ensures files { H.files shelf.new ≡ H.files shelf.old }
     ensures later { H.faults shelf.old ≤ H.faults shelf.new }
 {
@@ -154,6 +157,7 @@ pub(crate) fn folder_ladder<H: Shelf>(
     ensures facts { IfOk result (λ l. IsLadder l) }
     ensures read { (f : File) → IsErrOf result (SeasonError.Read f) → (f ≡ File.Ladder) × Rose (H.faults shelf.old) (H.faults shelf.new) }
     ensures too_long { (f : File) → IsErrOf result (SeasonError.TooLong f) → 33554432 < H.taken shelf.new }
+    ensures within { H.taken shelf.old ≤ 33_554_432 + 65_536 → H.taken shelf.new ≤ 33_554_432 + 65_536 }
     ensures files { H.files shelf.new ≡ H.files shelf.old }
     ensures later { H.faults shelf.old ≤ H.faults shelf.new }
 {
@@ -183,6 +187,7 @@ pub(crate) fn folder_stock<H: Shelf>(
     ensures facts { IfOk result (λ s. AreStores s) }
     ensures read { (f : File) → IsErrOf result (SeasonError.Read f) → (f ≡ File.Stock) × Rose (H.faults shelf.old) (H.faults shelf.new) }
     ensures too_long { (f : File) → IsErrOf result (SeasonError.TooLong f) → 33554432 < H.taken shelf.new }
+    ensures within { H.taken shelf.old ≤ 33_554_432 + 65_536 → H.taken shelf.new ≤ 33_554_432 + 65_536 }
     ensures files { H.files shelf.new ≡ H.files shelf.old }
     ensures later { H.faults shelf.old ≤ H.faults shelf.new }
 {
@@ -215,6 +220,7 @@ pub(crate) fn folder_demand<H: Shelf>(
     ensures facts { IfOk result (λ d. AreWeights (length stock.now) limits.weeks (length ladder.now) limits.base d) }
     ensures read { (f : File) → IsErrOf result (SeasonError.Read f) → (f ≡ File.Demand) × Rose (H.faults shelf.old) (H.faults shelf.new) }
     ensures too_long { (f : File) → IsErrOf result (SeasonError.TooLong f) → 33554432 < H.taken shelf.new }
+    ensures within { H.taken shelf.old ≤ 33_554_432 + 65_536 → H.taken shelf.new ≤ 33_554_432 + 65_536 }
     ensures files { H.files shelf.new ≡ H.files shelf.old }
     ensures later { H.faults shelf.old ≤ H.faults shelf.new }
 {

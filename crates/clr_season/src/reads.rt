@@ -1,5 +1,5 @@
 // The season of a folder.
-ghost use Rattle.std.specs.Prelude.{◌≡◌, ◌≤◌, ◌<◌, IfOk, IfSome, IsErrOf};
+ghost use Rattle.std.specs.Prelude.{◌≡◌, ◌⊎◌, ◌+◌, ◌≤◌, ◌<◌, IfOk, IfSome, IsErrOf};
 ghost use Rattle.clr_io.specs.Causes.{Rose};
 ghost use Rattle.clr_season.specs.Season.{IsSeason};
 ghost use Rattle.clr_season.specs.Reads.{Gives, season_in};
@@ -86,6 +86,10 @@ pub fn read_season<H: Shelf>(
     // Over every shelf, whether it tells its files or not.
     ensures read { (f : File) → IsErrOf result (SeasonError.Read f) → Rose (H.faults shelf.old) (H.faults shelf.new) }
     ensures too_long { (f : File) → IsErrOf result (SeasonError.TooLong f) → 33554432 < H.taken shelf.new }
+
+    // It stops once more than the limit was taken of a file: within one more buffer. Where memory is wanting, it may be that none
+    // was opened.
+    ensures within { (H.taken shelf.new ≤ 33_554_432 + 65_536) ⊎ (IsErrOf result SeasonError.Memory × (shelf.new ≡ shelf.old)) }
 
     ensures files { H.files shelf.new ≡ H.files shelf.old }
     ensures later { H.faults shelf.old ≤ H.faults shelf.new }

@@ -103,12 +103,12 @@ words-caused files words taken ShelfRose DeskRose OutRose ending is (inr (doc, b
 
 make-ends : (files : Option Files) (ask : Ask) (taken : ℕ) (ShelfRose : Type 0) (ending : Cause) → ask.job ≡ j.Make → ReadEnds files ask taken ShelfRose ending → status_of ending ≡ s.Memory
 make-ends files ask taken ShelfRose Words make ends = absurd ends
-make-ends files ask taken ShelfRose (Refused doc row column why) make ends = absurd (ends.0 make)
+make-ends files ask taken ShelfRose (Refused doc row column why) make ends = absurd (ends.0.0 make)
 make-ends files ask taken ShelfRose NoPath make ends = let plan : ask.job ≡ j.Plan = ends.0 in cc
 make-ends files ask taken ShelfRose (ReadFault doc) make ends = absurd (ends.1.0 make)
-make-ends files ask taken ShelfRose (Absent doc) make ends = absurd (ends.0 make)
+make-ends files ask taken ShelfRose (Absent doc) make ends = absurd (ends.0.0 make)
 make-ends files ask taken ShelfRose (WriteFault doc) make ends = absurd ends
-make-ends files ask taken ShelfRose (TooLong doc max) make ends = absurd (ends.1.0 make)
+make-ends files ask taken ShelfRose (TooLong doc max) make ends = absurd (ends.2.0 make)
 make-ends files ask taken ShelfRose (Cells found) make ends = absurd (ends.0 make)
 make-ends files ask taken ShelfRose (Size found) make ends = absurd (ends.0 make)
 make-ends files ask taken ShelfRose Base make ends = absurd (ends.0 make)
@@ -144,12 +144,12 @@ plan-dead given season is none = let dead : is_live season.rules [] ≡ false = 
 
 exactly-read : (held : Files) (ask : Ask) (taken : ℕ) (ShelfRose : Type 0) (ending : Cause) → ReadEnds (Some held) ask taken ShelfRose ending → Exactly (status_of ending) (ends_by held ask)
 exactly-read held ask taken ShelfRose Words ends = absurd ends
-exactly-read held ask taken ShelfRose (Refused doc row column why) ends = exactly-of s.Refused (ends_by held ask) (Refused doc row column why) ends.1 refl
+exactly-read held ask taken ShelfRose (Refused doc row column why) ends = exactly-of s.Refused (ends_by held ask) (Refused doc row column why) ends.1.1 refl
 exactly-read held ask taken ShelfRose NoPath (plan, (season, is, facts, none)) = exactly-of s.NoPath (ends_by held ask) NoPath (rw plan (plan-dead (season_in held ask.folder) season is none)) refl
 exactly-read held ask taken ShelfRose (ReadFault doc) ends = reading-fails (ends_by held ask)
-exactly-read held ask taken ShelfRose (Absent doc) ends = exactly-of s.Absent (ends_by held ask) (Absent doc) ends.1 refl
+exactly-read held ask taken ShelfRose (Absent doc) ends = exactly-of s.Absent (ends_by held ask) (Absent doc) ends.1.1 refl
 exactly-read held ask taken ShelfRose (WriteFault doc) ends = absurd ends
-exactly-read held ask taken ShelfRose (TooLong doc max) ends = exactly-of s.Limit (ends_by held ask) (TooLong doc max) ends.1.1 refl
+exactly-read held ask taken ShelfRose (TooLong doc max) ends = exactly-of s.Limit (ends_by held ask) (TooLong doc max) ends.3.1 refl
 exactly-read held ask taken ShelfRose (Cells found) ends = exactly-of s.Limit (ends_by held ask) (Cells found) ends.1 refl
 exactly-read held ask taken ShelfRose (Size found) ends = exactly-of s.Limit (ends_by held ask) (Size found) ends.1 refl
 exactly-read held ask taken ShelfRose Base ends = exactly-of s.Limit (ends_by held ask) Base ends.1 refl

@@ -1,6 +1,6 @@
 //! The program's one call: it does what the words ask, over any shelf, desk and sinks.
 
-ghost use Rattle.std.specs.Prelude.{◌≡◌, ◌≢◌, ◌⊎◌, ◌≤◌, [], IfSome, Some, None, map, string_bytes};
+ghost use Rattle.std.specs.Prelude.{◌≡◌, ◌≢◌, ◌⊎◌, ◌+◌, ◌≤◌, [], IfSome, Some, None, map, string_bytes};
 ghost use Rattle.clr_io.specs.Causes.{Rose};
 ghost use Rattle.clr_io.specs.Files.{Files};
 ghost use Rattle.clr_jobs.specs.Outputs.{Fails, Wrote};
@@ -48,7 +48,7 @@ pub fn run<H: Shelf, D: Desk, O: Sink, N: Sink>(
     // With `Ok` all outputs of what is asked were written, and no note: behind the files on the desk stand those that the job
     // makes, and behind the report's bytes its report.
     ensures ok { result ≡ Status.Ok → Writes (H.files shelf.old) (map string_bytes words.now) (λ outputs. Wrote outputs (D.made desk.old) (D.made desk.new) (O.written out.old) (O.written out.new)) }
-    ensures silent { result ≡ Status.Ok → N.written note.new ≡ N.written note.old }
+    ensures silent { result ≡ Status.Ok → note.new ≡ note.old }
 
     // Each other status has its cause, and the note of it was written. After a fault the outputs before the failed one stand
     // whole, of the failed one a front or no file, and nothing of a later one.
@@ -66,9 +66,13 @@ pub fn run<H: Shelf, D: Desk, O: Sink, N: Sink>(
     // A season is made unless an output fails or memory is wanting, whatever the shelf holds.
     ensures makes { MakesSeason (map string_bytes words.now) → (result ≡ Status.Ok) ⊎ ((result ≡ Status.WriteFault) ⊎ (result ≡ Status.Memory)) }
 
+    // Of no file more is taken than the longest may have, and one buffer. Where memory is wanting, it may be that none was opened.
+    ensures within { ReadsSeason (map string_bytes words.now) → (H.taken shelf.new ≤ 268_435_456 + 65_536) ⊎ ((result ≡ Status.Memory) × (shelf.new ≡ shelf.old)) }
+
     // What is as before.
-    ensures quiet { result ≢ Status.Ok → result ≢ Status.WriteFault → (O.written out.new ≡ O.written out.old) × (desk.new ≡ desk.old) }
+    ensures quiet { result ≢ Status.Ok → result ≢ Status.WriteFault → (out.new ≡ out.old) × (desk.new ≡ desk.old) }
     ensures desk { docs_asked (map string_bytes words.now) ≡ [] → desk.new ≡ desk.old }
+    ensures shelf { ¬ ReadsSeason (map string_bytes words.now) → shelf.new ≡ shelf.old }
     ensures around { O.around out.new ≡ O.around out.old }
     ensures note_around { N.around note.new ≡ N.around note.old }
     ensures files { H.files shelf.new ≡ H.files shelf.old }

@@ -14,7 +14,7 @@ returns-in-Ok-finish-clause-proved g c =
     let season = c.args.season.now in
     let fed = c.in_ok-rest.ensures.fed season c.in-Ok.ensures.stands in
     let bytes = ended_text fed.more ++ fed.last in
-    let claim : IsClaimOf season bytes c.in-Ok-finish.claims = c.in-Ok-finish.ensures season fed.more fed.last fed.stands fed.line fed.ends in
+    let claim : IsClaimOf season bytes c.in-Ok-finish.claims = c.in-Ok-finish.ensures.answer season fed.more fed.last fed.stands fed.line fed.ends in
     (bytes, fed.is, proved season bytes c.in-Ok-finish.claims c.accepted_hold.ensures claim)
 
 pub returns-in-Ok-finish-clause-accepted : goal.returns-in-Ok-finish-clause-accepted
@@ -22,7 +22,7 @@ returns-in-Ok-finish-clause-accepted g c judged =
     let season = c.args.season.now in
     let fed = c.in_ok-rest.ensures.fed season c.in-Ok.ensures.stands in
     let bytes = ended_text fed.more ++ fed.last in
-    let claim : IsClaimOf season bytes c.in-Ok-finish.claims = c.in-Ok-finish.ensures season fed.more fed.last fed.stands fed.line fed.ends in
+    let claim : IsClaimOf season bytes c.in-Ok-finish.claims = c.in-Ok-finish.ensures.answer season fed.more fed.last fed.stands fed.line fed.ends in
     of_file (λ b. IsOk {T = Claims} {E = CheckError} (Ok c.in-Ok-finish.claims) ↔ Accepts season b) bytes (g.H.Shelf.files c.args.shelf.now) c.args.name.now fed.is (ok_accepted season bytes c.in-Ok-finish.claims claim)
 
 pub returns-in-Ok-finish-clause-refused : goal.returns-in-Ok-finish-clause-refused
@@ -30,7 +30,7 @@ returns-in-Ok-finish-clause-refused g c judged =
     let season = c.args.season.now in
     let fed = c.in_ok-rest.ensures.fed season c.in-Ok.ensures.stands in
     let bytes = ended_text fed.more ++ fed.last in
-    let claim : IsClaimOf season bytes c.in-Ok-finish.claims = c.in-Ok-finish.ensures season fed.more fed.last fed.stands fed.line fed.ends in
+    let claim : IsClaimOf season bytes c.in-Ok-finish.claims = c.in-Ok-finish.ensures.answer season fed.more fed.last fed.stands fed.line fed.ends in
     of_file (λ b. (refusal : No) → IsErrOf {T = Claims} {E = CheckError} (Ok c.in-Ok-finish.claims) (e.No refusal) ↔ (first_no season b ≡ Some refusal)) bytes (g.H.Shelf.files c.args.shelf.now) c.args.name.now fed.is
     (ok_refused season bytes c.in-Ok-finish.claims c.accepted_or_refused.ensures claim)
 
@@ -39,7 +39,7 @@ returns-clause-accepted g c judged =
     let season = c.args.season.now in
     let fed = c.in_ok-rest.ensures.fed season c.in-Ok.ensures.stands in
     let bytes = ended_text fed.more ++ fed.last in
-    let first : first_no season bytes ≡ Some c.in-Err-finish.no = c.in-Err-finish.ensures season fed.more fed.last fed.stands fed.line fed.ends in
+    let first : first_no season bytes ≡ Some c.in-Err-finish.no = c.in-Err-finish.ensures.answer season fed.more fed.last fed.stands fed.line fed.ends in
     of_file (λ b. IsOk {T = Claims} {E = CheckError} (Err (e.No c.in-Err-finish.no)) ↔ Accepts season b) bytes (g.H.Shelf.files c.args.shelf.now) c.args.name.now fed.is (no_accepted season bytes c.in-Err-finish.no c.accepted_or_refused.ensures first)
 
 pub returns-clause-refused : goal.returns-clause-refused
@@ -47,6 +47,6 @@ returns-clause-refused g c judged =
     let season = c.args.season.now in
     let fed = c.in_ok-rest.ensures.fed season c.in-Ok.ensures.stands in
     let bytes = ended_text fed.more ++ fed.last in
-    let first : first_no season bytes ≡ Some c.in-Err-finish.no = c.in-Err-finish.ensures season fed.more fed.last fed.stands fed.line fed.ends in
+    let first : first_no season bytes ≡ Some c.in-Err-finish.no = c.in-Err-finish.ensures.answer season fed.more fed.last fed.stands fed.line fed.ends in
     of_file (λ b. (refusal : No) → IsErrOf {T = Claims} {E = CheckError} (Err (e.No c.in-Err-finish.no)) (e.No refusal) ↔ (first_no season b ≡ Some refusal)) bytes (g.H.Shelf.files c.args.shelf.now) c.args.name.now fed.is
     (no_refused season bytes c.in-Err-finish.no first)
