@@ -3,6 +3,7 @@ use crate::cases::{
     Answer, Failing, Held, NONE_FAILS, TWO_WEEKS, bytes_of, desk_of, held, is_line_told, line_of,
     numbers_of, run_over, write_files,
 };
+use crate::ending::Status;
 use clr_io::{MemoryDesk, MemoryShelf};
 use std::alloc::{AllocError, Global};
 use std::fs;
@@ -22,11 +23,21 @@ const REPORT: &str =
     "season 1 stores 2 weeks 2 rungs base 2|path 1 2|prices 10.00 4.00|revenue 11.00000000 11.00000000|best yes|bound 11.50000000 step 0|gap 0.50000000|exact 11.50000000 11.50000000 first 1|";
 
 // The files of the same season in version 3.
-const VERSION_3: &str = r#"rules.json {"version":3,"weeks":2,"base":2}
+pub(crate) const VERSION_3: &str = r#"rules.json {"version":3,"weeks":2,"base":2}
 stock.csv store,units,salvage,relabel|a,2,0,0|"#;
 
+// One week: on the first rung one store sells its unit and the other none, on the second both sell.
+pub(crate) const TWO_STORES: &str = r#"rules.json {"weeks":1,"base":2}
+ladder.csv rung,price|1,10.00|2,6.00|
+stock.csv store,units,salvage|a,1,0|b,1,0|
+demand.csv store,week,rung,units,weight|a,1,1,1,2|a,1,2,1,2|b,1,1,0,2|b,1,2,1,2|"#;
+
+// Its certificate behind two steps: the first store is paid 2.50 for the second rung, and the other as much for the first.
+pub(crate) const STEPPED: &str =
+    "certificate.csv clearance certificate 1|path,2|m,1,1,-250000000,250000000|m,1,2,250000000,-250000000|l,1,1,0,0|l,1,2,0,0|h,1,1,0,0|h,1,2,0,0|v,1,1,1,0,1,0,0|v,1,1,2,1,1,0,0|v,1,2,1,0,1,0,0|v,1,2,2,1,1,0,0|j,1,1,0,1,0,0,0,0,0|j,1,1,0,1,0,1,0,0,0|j,1,1,0,1,1,0,0,0,0|j,1,1,0,1,1,1,0,0,0|j,1,2,1,1,0,0,0,0,0|j,1,2,1,1,0,1,0,0,0|j,1,2,1,1,1,0,0,0,0|j,1,2,1,1,1,1,0,0,0|l,0,1,0,600000000|l,0,2,0,600000000|h,0,1,0,600000000|h,0,2,0,600000000|v,0,1,1,0,1,250000000,850000000|v,0,2,1,0,1,250000000,350000000|j,0,1,0,1,0,0,1,0,0|j,0,1,0,1,0,1,2,600000000,600000000|j,0,1,0,1,1,0,1,1000000000,1000000000|j,0,1,0,1,1,1,2,1200000000,1200000000|revenue,1200000000,1200000000|bound,1200000000|exact,1200000000,1200000000|";
+
 // The files that differ in the season of a certificate with these first lines.
-pub(crate) fn files_behind(head: &str) -> &'static str {
+fn files_behind(head: &str) -> &'static str {
     if head.starts_with("clearance certificate 2") {
         VERSION_3
     } else {
@@ -57,6 +68,16 @@ pub(crate) fn certify(
 ) -> Result<Answer, AllocError> {
     let mut shelf = MemoryShelf::new(files, 64, Vec::new(alloc));
     run_over(alloc, "plan f --cert c", &mut shelf, desk, failing)
+}
+
+// The plan of two stores behind two steps makes their certificate.
+fn is_stepped(alloc: Global) -> Result<bool, AllocError> {
+    let mut shelf = MemoryShelf::new(held(alloc, "f", TWO_STORES, "")?, 64, Vec::new(alloc));
+    let mut desk = desk_of(alloc, 1, 4096, 65_536, 0)?;
+    let words = "plan f --steps 2 --cert c";
+    let answer = run_over(alloc, words, &mut shelf, &mut desk, NONE_FAILS)?;
+    let text = bytes_of(alloc, line_of(STEPPED, "certificate.csv ").unwrap_or(""))?;
+    Ok(answer.status == Status::Ok && has_front(&desk, 1, &text))
 }
 
 // This is told of the plan on a desk, with a certificate that has these first lines.
@@ -110,6 +131,7 @@ fn certificates_are_written(rt: HostRuntime) -> Result<(), Fail> {
         assert!(rt; is_certified(rt.alloc(), line)?, "{line}");
     }
     assert!(rt; is_whole_at_a_fault(rt.alloc())?);
+    assert!(rt; is_stepped(rt.alloc())?);
     Ok(())
 }
 

@@ -40,6 +40,15 @@ policy.json [
 > judge f
 = 9 policy no: json
 
+# Arrays nested 127 deep are read, and are no policy; deeper ones aren't read.
+policy.json <# 1 127 [><# 1 127 ]>
+> judge f
+= 9 policy no: branch 1 shape
+
+policy.json <# 1 128 [><# 1 128 ]>
+> judge f
+= 9 policy no: json
+
 # The base to the number of stores is 10^24.
 rules.json {"weeks":1,"base":1000000}
 ladder.csv rung,price|1,10.00|
