@@ -1,4 +1,4 @@
-use Rattle.std.proofs.Common.{◌≡◌, refl, rules, subst}
+use Rattle.std.proofs.Common.{◌≡◌, arith, inl, refl, rules, subst}
 use Rattle.std.specs.Prelude.{Err, IfSome, IsErrOf, None}
 use Rattle.clr_words.specs.Asked.{ask_of}
 use Rattle.clr_words.specs.declared.asked.Job.TheVariants as j
@@ -7,6 +7,7 @@ use Rattle.clr_jobs.specs.FileEnds.{EndsBy}
 use Rattle.clr_jobs.specs.Checking.{check_ends}
 use Rattle.clr_jobs.proofs.Ends.{given-error, same-error}
 use Rattle.clr_jobs.proofs.Further.{further-ends, further-passes, check-behind, check-written}
+use Rattle.clr_jobs.proofs.Taking.{few-taken}
 use Rattle.clr_jobs.proofs.jobs.ready_check.Goals as goal
 
 pub returns-in_err-text-clause-ends : goal.returns-in_err-text-clause-ends
@@ -31,3 +32,6 @@ returns-clause-passes g c =
     let passes : IfSome (g.H.Shelf.files c.args.shelf.now) (λ held. check_ends c.in_ok-season.season (ask_of c.args.asked.now) held ≡ None) =
     subst (λ told. IfSome told (λ held. check_ends c.in_ok-season.season (ask_of c.args.asked.now) held ≡ None)) c.in_ok-season.ensures.files c.in_ok-text.ensures.passes in
     further-passes j.Check check_ends check-behind (g.H.Shelf.files c.args.shelf.now) (ask_of c.args.asked.now) c.in_ok-season.season c.requires.job c.in_ok-season.ensures.season c.in_ok-season.ensures.facts passes
+
+pub returns-clause-within : goal.returns-clause-within
+returns-clause-within g c = inl (c.in_ok-text.ensures.within (omega (arith, few-taken c.in_ok-season.season _ _ c.in_ok-season.ensures.within)))

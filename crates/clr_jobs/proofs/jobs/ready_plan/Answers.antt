@@ -1,9 +1,10 @@
-use Rattle.std.proofs.Common.{◌≡◌, ◌∙◌, ap, rules, subst}
+use Rattle.std.proofs.Common.{◌≡◌, ◌∙◌, ◌≤◌, ◌+◌, arith, inl, ap, rules, subst}
 use Rattle.std.specs.Prelude.{Err, IsErrOf}
 use Rattle.clr_rules.specs.LiveSummaries.{live_pairs}
 use Rattle.clr_words.specs.Asked.{ask_of}
 use Rattle.clr_jobs.specs.Held.{entries_of}
 use Rattle.clr_jobs.proofs.Ends.{given-error, no-plan, plan-passes, plan-written, same-error}
+use Rattle.clr_jobs.proofs.Taking.{few-taken}
 use Rattle.clr_jobs.proofs.jobs.ready_plan.Goals as goal
 
 pub returns-in_err-plan-clause-ends : goal.returns-in_err-plan-clause-ends
@@ -23,3 +24,6 @@ returns-clause-passes g c = plan-passes (g.H.Shelf.files c.args.shelf.now) (ask_
 
 pub returns-clause-ready : goal.returns-clause-ready
 returns-clause-ready g c = record { live = c.in-Ok.ensures.pairs ∙ ap live_pairs c.rules.ensures.value; any = c.in_ok-plan.ensures.any; whole = c.in_ok-plan.ensures.whole }
+
+pub returns-clause-within : goal.returns-clause-within
+returns-clause-within g c = let few : g.H.Shelf.taken c.asked_season.new.shelf ≤ 33554432 + 65536 = few-taken c.in_ok-season.season _ _ c.in_ok-season.ensures.within in inl (omega arith)

@@ -1,10 +1,11 @@
-use Rattle.std.proofs.Common.{map, string_bytes, subst}
+use Rattle.std.proofs.Common.{inl, map, string_bytes, subst}
 use Rattle.std.specs.Prelude.{IsErrOf}
 use Rattle.clr_cert.proofs.Sending.{on_ok}
 use Rattle.clr_jobs.specs.Outputs.{Leaves, Wrote}
 use Rattle.clr_jobs.specs.Ready.{docs_ready, outputs_of}
 use Rattle.clr_jobs.specs.Runs.{docs_asked}
 use Rattle.clr_jobs.proofs.Writing.{writing-caused, writing-memory, written}
+use Rattle.clr_jobs.proofs.Taking.{few-taken}
 use Rattle.clr_jobs.proofs.jobs.work.Goals as goal
 
 pub returns-clause-ok : goal.returns-clause-ok
@@ -28,3 +29,9 @@ returns-clause-leaves g c = λ ending is doc by.
 
 pub returns-clause-quiet : goal.returns-clause-quiet
 returns-clause-quiet g c = λ ending is other. writing-memory ending _ (c.write_outputs.ensures.ends ending is) other (λ memory. c.write_outputs.ensures.memory (subst (IsErrOf c.write_outputs.result) memory is))
+
+pub returns-clause-passes : goal.returns-clause-passes
+returns-clause-passes g c = on_ok c.write_outputs.result c.write_outputs.ensures.ok (λ wrote. c.in_ok-ready.ensures.passes)
+
+pub returns-clause-within : goal.returns-clause-within
+returns-clause-within g c = λ reads. inl (few-taken c.in_ok-ready.ready _ _ (c.in_ok-ready.ensures.within reads))
