@@ -14,7 +14,7 @@ use clr_season::Season;
 pub enum Place {
     /// The first line.
     Head,
-    /// The numbers of lines and of live summaries, in a certificate of version 3.
+    /// The numbers of lines and of live summaries, in the certificate of a season of version 3.
     Lengths,
     /// The path.
     Path,

@@ -2,9 +2,10 @@
 ghost use Rattle.clr_make.specs.Draws.{draw, next_state, state_after};
 ghost use Rattle.std.specs.Prelude.{◌≡◌, ◌+◌, ◌/◌, ◌<◌, ◌^◌, ℕ};
 
-/// The multiplier and the step of the generator (Knuth, The Art of Computer Programming, volume 2, section 3.3.4).
+/// The multiplier of the generator (Knuth, The Art of Computer Programming, volume 2, section 3.3.4).
 const MULTIPLIER: u64 = 6_364_136_223_846_793_005;
 
+/// What a draw adds after the multiplication, modulo 2^64.
 const STEP: u64 = 1_442_695_040_888_963_407;
 
 /// A linear congruential generator of 64 bits.
