@@ -44,7 +44,7 @@ pub fn read_whole<H: Shelf>(
     ensures bytes { IfOk result (λ v. IfSome (H.files shelf.old) (λ files. held name.now files ≡ Some v.items)) }
     ensures taken { IfOk result (λ v. (H.taken shelf.new ≡ length v.items) × (length v.items ≤ max)) }
 
-    // When each error comes. Where memory is wanting, no other error comes.
+    // When each error comes. Memory may be wanting at any time.
     ensures too_long { IsErrOf result (ReadError.TooLong max) ↔ (max < H.taken shelf.new) }
     ensures limit { (n : ℕ) → IsErrOf result (ReadError.TooLong n) → n ≡ max }
     ensures longer { IsErrOf result (ReadError.TooLong max) → IfSome (H.files shelf.old) (λ files. IsSomeAnd (held name.now files) (λ bytes. max < length bytes)) }

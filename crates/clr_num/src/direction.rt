@@ -30,7 +30,7 @@ pub trait Direction {
     fn div_by(num: i128, divisor: &Divisor) -> i128
         ensures { result ≡ quotient num divisor.now };
 
-    // Sums and averages keep the relation, and a division goes its way by less than one.
+    // Sums, scaling and maxima keep the relation, and a division goes its way by less than one.
     ghost laws: { IsDirection leans quotient };
 }
 

@@ -11,7 +11,8 @@ use std::marker::Model;
 #[derive(Drop)]
 pub struct Divisor {
     base: i64,
-    // 2^63 over the base. Guesses are as good as this is, and nothing else rests on it.
+    // 2^63 - 1 over the base, rounded down. Guesses are as good as this is, and nothing else rests
+    // on it.
     reciprocal: i64,
 }
 
@@ -33,7 +34,7 @@ pub(crate) struct Split {
 }
 
 impl Divisor {
-    /// Makes a base ready to divide by.
+    /// Makes a base ready to divide by, from 1 to 2^63 - 1.
     pub fn new(base: u64) -> Divisor
         requires low { 1 ≤ base }
         requires high { base ≤ 2 ^ 63 - 1 }

@@ -284,7 +284,7 @@ fn keep_live(
 }
 
 /// The live summaries of a season, those of the prefixes that some obeying path extends. They are seen as the list of their
-/// pairs of length and summary: by the number of weeks done, from 0, and then in the order of summaries.
+/// pairs of length and summary: by the number of weeks done, from 0, and then in the order of summaries, by `last`, `count` and `age`.
 #[derive(Drop)]
 pub struct Live {
     weeks: Vec<Week>,

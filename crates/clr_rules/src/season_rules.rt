@@ -116,9 +116,9 @@ pub enum Rule {
     Frozen,
     /// There are at most so many markdown weeks.
     Number,
-    /// Any two markdown weeks are so many weeks apart.
+    /// Any two markdown weeks are at least so many weeks apart.
     Spacing,
-    /// The first markdown leaves so much of the first price.
+    /// The first markdown leaves at least so much of the first price.
     FirstCut,
 }
 

@@ -17,7 +17,7 @@ use thiserror::Error;
 pub enum File {
     /// The rules, rules.json.
     Rules,
-    /// The weeks in which markdowns may be taken, calendar.csv.
+    /// The rungs that each week may have, and which weeks are frozen, calendar.csv.
     Calendar,
     /// The prices, ladder.csv.
     Ladder,

@@ -71,6 +71,7 @@ plan,f,--seed,999999999=>Plan f 20 1 100000 - 999999999
 # further spellings of a number
 plan,f,--steps,007=>Plan f 7 1 100000 - 1
 plan,f,--steps,+5=>Plan f 5 1 100000 - 1
+plan,f,--steps=-0=>Plan f 0 1 100000 - 1
 # a dash alone is a value, and no option comes behind two
 plan,f,--cert,-=>Plan f 20 1 100000 - 1
 plan,-=>Plan - 20 1 100000 - 1

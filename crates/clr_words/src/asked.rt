@@ -25,8 +25,8 @@ pub struct Asked {
     pub steps: u32,
     /// `--step`: the size of the descent's steps, 1 to 10. 1 where it isn't given.
     pub step: u32,
-    /// `--nodes`: how many beginnings of paths the search looks at, 0 to 10,000,000. 100,000 where
-    /// it isn't given.
+    /// `--nodes`: how many tight prefixes the search takes, 0 to 10,000,000. 100,000 where it
+    /// isn't given.
     pub nodes: u64,
     /// `--cert`: the name of the certificate, as it was written. `-`, which stands for no name,
     /// where it isn't given.
