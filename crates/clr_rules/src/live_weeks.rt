@@ -284,7 +284,8 @@ fn keep_live(
 }
 
 /// The live summaries of a season, those of the prefixes that some obeying path extends. They are seen as the list of their
-/// pairs of length and summary: by the number of weeks done, from 0, and then in the order of summaries, by `last`, `count` and `age`.
+/// pairs of length and summary: by the number of weeks done, from 0, and then in the order of summaries, by `last`, then
+/// `count`, then `age`.
 #[derive(Drop)]
 pub struct Live {
     weeks: Vec<Week>,
