@@ -1,6 +1,6 @@
 -- Why runs end by the statuses by which they end.
-use Rattle.std.proofs.Common.{◌≡◌, inl, inr, refl, ap, subst, ℕ, List, [], Some, None, false}
-use Rattle.std.specs.Prelude.{◌≢◌, ◌⊎◌, IfSome, Option, Result, Ok}
+use Rattle.std.proofs.Common.{◌≡◌, ◌∙◌, inl, inr, refl, ap, subst, ℕ, List, [], Some, None, false}
+use Rattle.std.specs.Prelude.{◌≢◌, ◌⊎◌, IfSome, IsErrOf, Option, Result, Ok, Err}
 use Rattle.clr_io.specs.Files.{Files}
 use Rattle.clr_words.specs.Asked.{Ask, asked_of}
 use Rattle.clr_words.specs.declared.asked.Job.TheVariants as j
@@ -213,3 +213,14 @@ ok-no-write is = cc
 
 pub ok-no-words : s.Ok ≢ s.Words
 ok-no-words is = cc
+
+-- ---- what was taken
+
+-- the cause of an ending, and a default where there is none
+by-cause : {X : Type 0} → Cause → Result X Cause → Cause
+by-cause default (Ok value) = default
+by-cause default (Err cause) = cause
+
+pub within-told : {X : Type 0} (status : Status) (ending : Cause) (Few Same : Type 0) → status ≡ status_of ending → Few ⊎ (IsErrOf {T = X} {E = Cause} (Err ending) Memory × Same) → Few ⊎ ((status ≡ s.Memory) × Same)
+within-told status ending Few Same told (inl few) = inl few
+within-told status ending Few Same told (inr (is, same)) = inr (told ∙ ap (λ r. status_of (by-cause ending r)) is, same)

@@ -1,9 +1,10 @@
-use Rattle.std.proofs.Common.{◌≡◌, ◌∙◌, inl, inr, sym, subst, refl, map, string_bytes, Some}
+use Rattle.std.proofs.Common.{◌≡◌, ◌∙◌, inl, inr, ap, sym, subst, refl, map, string_bytes, Some}
 use Rattle.std.specs.Prelude.{◌⊎◌, IfSome}
 use Rattle.clr_top.specs.declared.ending.Status.TheVariants as s
 use Rattle.clr_jobs.specs.Runs.{docs_asked, ending_asked}
-use Rattle.clr_top.specs.Endings.{Exactly}
-use Rattle.clr_top.proofs.Ends.{exactly-ok, exactly-told, makes-caused, ok-no-read, ok-no-words, ok-no-write, only-memory, read-caused, words-caused, write-caused}
+use Rattle.clr_jobs.proofs.Taking.{few-taken}
+use Rattle.clr_top.specs.Endings.{Exactly, status_of}
+use Rattle.clr_top.proofs.Ends.{exactly-ok, exactly-told, makes-caused, ok-no-read, ok-no-words, ok-no-write, only-memory, read-caused, within-told, words-caused, write-caused}
 use Rattle.clr_top.proofs.program.run.Goals as goal
 
 pub returns-in-Ok-clause-exact : goal.returns-in-Ok-clause-exact
@@ -59,3 +60,12 @@ returns-in-Ok-clause-write g c = λ is. absurd (ok-no-write is)
 
 pub returns-in-Ok-clause-words : goal.returns-in-Ok-clause-words
 returns-in-Ok-clause-words g c = λ is. absurd (ok-no-words is)
+
+pub returns-in-Ok-clause-within : goal.returns-in-Ok-clause-within
+returns-in-Ok-clause-within g c = λ reads. inl (few-taken c.in-Ok.field-0 _ _ (c.in-Ok.ensures.within reads))
+
+pub returns-in-Err-clause-within : goal.returns-in-Err-clause-within
+returns-in-Err-clause-within g c = λ reads. within-told c.ending_status.result c.in-Err.ending _ _ c.ending_status.ensures (c.in-Err.ensures.within reads)
+
+pub returns-in-Err-clause-quiet : goal.returns-in-Err-clause-quiet
+returns-in-Err-clause-quiet g c = λ other unwritten. c.in-Err.ensures.quiet c.in-Err.ending refl (λ doc is. unwritten (c.ending_status.ensures ∙ ap status_of is))
