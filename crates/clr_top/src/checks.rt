@@ -31,13 +31,14 @@ const TWO_STEPS: Certified = Certified {
     certificate: STEPPED,
 };
 
-// A line of a certificate, what stands in its place, and behind `=` what is told.
+// A line of a certificate, what stands in its place, and behind `=` what is told. A line may have 65,536 bytes, and not one more.
 const CHANGED: &str =
     "path,1,2 -> path,1,2=0 season 1 stores 2 weeks 2 rungs base 2|certificate yes|path 1 2|prices 10.00 4.00|revenue 11.00000000 11.00000000|bound 11.50000000|exact 11.50000000 11.50000000|
 v,0,1,1,0,1,0,750000000,1150000000 -> v,0,1,1,0,1,0,750000000,1149999999=7 certificate no: row 29 value 2299999998 2300000000
 l,1,1,0,400000000,800000000 -> l,1,1,00,400000000,800000000=7 certificate no: row 17 form
 l,1,1,0,400000000,800000000 -> l,1,1,0,+400000000,800000000=7 certificate no: row 17 form
-m,1,1,0 -> m,1,1,<# 1 65531 0>=7 certificate no: row 3 form
+m,1,1,0 -> m,1,1,<# 1 65530 9>=7 certificate no: row 3 range
+m,1,1,0 -> m,1,1,<# 1 65531 9>=7 certificate no: row 3 form
 path,1,2 -> path,1,3=7 certificate no: row 2 range
 path,1,2 -> path,2,1=7 certificate no: row 2 path 2 1
 exact,1150000000,1150000000 -> exact,1150000000,1150000000|x=7 certificate no: row 36 extra
