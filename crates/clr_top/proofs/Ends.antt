@@ -217,7 +217,7 @@ ok-no-words is = cc
 -- ---- what was taken
 
 -- the cause of an ending, and a default where there is none
-by-cause : {X : Type 0} → Cause → Result X Cause → Cause
+abbrev by-cause : {X : Type 0} → Cause → Result X Cause → Cause
 by-cause default (Ok value) = default
 by-cause default (Err cause) = cause
 
