@@ -65,7 +65,7 @@ GivesShort Whole new = IsShort new.longest new.given
 GivesShort Long new = new.given ≡ []
 GivesShort (Rest true) new = new.given ≡ []
 GivesShort (Rest false) new = IsShort new.longest new.given
-GivesShort Over new = Unit {0}
+GivesShort Over new = new.given ≡ []
 
 -- A line that a line feed ended takes at least a byte: more were taken, or fewer are held.
 abbrev pub TakesSome : Reading → Line → Reading → Type 0

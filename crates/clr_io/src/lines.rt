@@ -77,7 +77,7 @@ impl Lines {
         requires longest { 1 ≤ longest }
         requires max { max ≤ 2 ^ 62 }
         ensures limits { IfOk result (λ lines. (lines.longest ≡ longest) × (lines.max ≡ max)) }
-        ensures start { IfOk result (λ lines. (lines.taken ≡ 0) × (lines.held ≡ []) × (lines.ended ≡ false)) }
+        ensures start { IfOk result (λ lines. (lines.taken ≡ 0) × (lines.held ≡ []) × (lines.given ≡ []) × (lines.ended ≡ false)) }
     {
         Ok(Lines {
             buffer: ReadBuffer::new(alloc, longest as usize + PIECE)?,
@@ -117,6 +117,7 @@ impl Lines {
         ensures counts { IfOk result (λ _. Counts self.old (H.rest shelf.old) self.new (H.rest shelf.new)) }
         ensures over { (result ≡ Ok Line.Over) ↔ (self.new.max < self.new.taken) }
         ensures short { IfOk result (λ line. GivesShort line self.new) }
+        ensures none { OnErr result (self.new.given ≡ []) }
         ensures some { IfOk result (λ line. TakesSome self.old line self.new) }
         ensures ended { self.new.ended ≡ ends result }
         ensures limits { (self.new.longest ≡ self.old.longest) × (self.new.max ≡ self.old.max) }
@@ -141,6 +142,7 @@ impl Lines {
         ensures counts { IfOk result (λ _. Counts self.old (H.rest shelf.old) self.new (H.rest shelf.new)) }
         ensures over { (result ≡ Ok Line.Over) ↔ (self.new.max < self.new.taken) }
         ensures short { IfOk result (λ line. GivesShort line self.new) }
+        ensures none { OnErr result (self.new.given ≡ []) }
         ensures some { IfOk result (λ line. TakesSome self.old line self.new) }
         ensures ended { self.new.ended ≡ ends result }
         ensures limits { (self.new.longest ≡ self.old.longest) × (self.new.max ≡ self.old.max) }
@@ -186,6 +188,7 @@ impl Lines {
         requires room { length self.old.held ≤ self.old.longest }
         ensures piece { IfOk result (λ count. TakesPiece self.old.held self.new.held (H.rest shelf.old) (H.rest shelf.new) count) }
         ensures end { IfOk result (λ count. count ≡ 0 → IsAtEnd (H.rest shelf.new)) }
+        ensures given { self.new.given ≡ [] }
         ensures taken { MatchResult result (λ count. (H.taken shelf.new ≡ H.taken shelf.old + count) × (self.new.taken ≡ self.old.taken + count)) (λ _. (H.taken shelf.new ≡ H.taken shelf.old) × (self.new.taken ≡ self.old.taken)) }
         ensures limits { (self.new.longest ≡ self.old.longest) × (self.new.max ≡ self.old.max) }
         ensures ended { MatchResult result (λ count. self.new.ended ≡ (nat_lt self.new.max self.new.taken || (count == 0))) (λ _. self.new.ended ≡ true) }

@@ -160,6 +160,7 @@ impl ReadBuffer {
     pub(crate) fn read<H: Shelf>(&mut self, shelf: &mut H) -> Result<usize, Failed>
         requires { length self.old.held + 65536 ≤ self.old.room }
         ensures room { self.new.room ≡ self.old.room }
+        ensures given { self.new.given ≡ [] }
         ensures piece { MatchResult result (λ count. TakesPiece self.old.held self.new.held (H.rest shelf.old) (H.rest shelf.new) count) (λ _. self.new.held ≡ self.old.held) }
         ensures end { IfOk result (λ count. (count ≤ 65536) × (count ≡ 0 → IsAtEnd (H.rest shelf.new))) }
         ensures taken { MatchResult result (λ count. H.taken shelf.new ≡ H.taken shelf.old + count) (λ _. H.taken shelf.new ≡ H.taken shelf.old) }

@@ -4,6 +4,7 @@ ghost use Rattle.std.specs.Io.KnownBytes.{Appends};
 ghost use Rattle.clr_io.specs.Causes.{HasCause, Rose};
 ghost use Rattle.clr_io.specs.Files.{held};
 
+use crate::read_buffer::PIECE;
 use crate::{Failed, Shelf, Sink};
 use std::alloc::{AllocError, Global};
 use thiserror::Error;
@@ -27,9 +28,6 @@ pub enum ReadError {
     #[error("out of memory")]
     Memory,
 }
-
-// The number of bytes that one read asks for.
-const BUFFER: usize = 65_536;
 
 /// The bytes of the file of a name, of which there may be at most `max`.
 ///
@@ -63,7 +61,7 @@ pub fn read_whole<H: Shelf>(
         Ok(false) => return Err(ReadError::Absent),
         Err(_) => return Err(ReadError::Failed),
     }
-    let mut buffer = match zeros(alloc, BUFFER) {
+    let mut buffer = match zeros(alloc, PIECE) {
         Ok(buffer) => buffer,
         Err(_) => return Err(ReadError::Memory),
     };
