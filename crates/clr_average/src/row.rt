@@ -75,9 +75,15 @@ fn fits_narrow(base: u32, gain: u64, size: usize, reach: u64) -> bool
     u128::from(base) * u128::from(gain * size as u64 + reach) <= i64::MAX as u128
 }
 
-/// Writes the averages of `average_row`, with sums at 64 bits where these hold them, and at 128 bits elsewhere.
+/// Writes, for each stock from 0 to at most 2,000, the average over the demands of what the sold units earn and the value of
+/// what is left, rounded in the direction `R`: a week of one store, as docs/model.md, "The value of a path", has it.
 ///
-/// `reach` is a size that no value of `after` passes; the closer it is, the more rows take 64 bits.
+/// `weights` has the weight of each demand, from 0 up, out of `base`; the demands past its end weigh nothing. Each unit sold
+/// earns `gain`. `after` has the value of each stock after the week, and `out` gets the averages at the same stocks. Values and
+/// `gain` are in units, of which a cent has 10^6.
+///
+/// Sums have 64 bits where these hold them, and 128 bits elsewhere. `reach` is a size that no value of `after` passes; the
+/// closer it is, the more rows take 64 bits.
 pub fn average_values<R: Direction>(
     weights: &[u32],
     base: u32,

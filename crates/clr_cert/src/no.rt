@@ -38,7 +38,7 @@ pub struct No {
     pub row: u64,
     /// What is wrong.
     pub kind: NoKind,
-    /// The left side of the condition that fails; 0 where the kind has none.
+    /// The left side of the condition that fails, as docs/formats.md, "Its conditions", has it; 0 where the kind has none.
     pub left: i128,
     /// Its right side; 0 where the kind has none.
     pub right: i128,

@@ -31,7 +31,8 @@ pub enum CertError {
     Memory,
 }
 
-/// Makes a file of this name on a desk, and writes the certificate of a season's entries to it.
+/// Makes a file of this name on a desk, and writes the certificate of a season's entries to it. Its text is that of
+/// docs/formats.md, "The certificate".
 ///
 /// # Errors
 /// `Failed` where the desk failed: no file was made, or a front of the text stands in it. `Memory` where memory is wanting,

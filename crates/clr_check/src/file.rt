@@ -143,7 +143,8 @@ fn begun<'a>(alloc: Global, season: &'a Season) -> Result<(Checker<'a>, Lines), 
     Ok((checker, lines))
 }
 
-/// Reads the certificate of a name line by line, and checks it: what it claims, where it is accepted, and this holds then.
+/// Reads the certificate of a name line by line, and checks it: what it claims, where it is accepted, and this holds then. What is
+/// accepted, and what the first fault is, says docs/formats.md, "The certificate".
 ///
 /// It takes all its memory before it opens the file. After a fault of the certificate it still reads to the end, so a fault of
 /// the shelf and a file of more than 268,435,456 bytes come before it.

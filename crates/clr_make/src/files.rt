@@ -30,8 +30,11 @@ pub struct Made {
 
 /// The files of the season that a seed makes.
 ///
-/// It has 24 stores, 12 weeks and 6 rungs, and its weights sum to 100. `docs/formats.md` says how
-/// the stocks and the demands are drawn. The only error is want of memory.
+/// It has 24 stores, 12 weeks and 6 rungs, and its weights sum to 100. docs/formats.md, "Made seasons", says how the stocks and
+/// the demands are drawn.
+///
+/// # Errors
+/// Where memory is wanting.
 pub fn make_files(alloc: Global, seed: u32) -> Result<Made, AllocError>
     requires { seed ≤ 999999999 }
     ensures files { IfOk result (λ made. IsMade seed made) }

@@ -23,7 +23,10 @@ impl Model for Path {
 }
 
 impl Path {
-    /// The path with these rungs, one of the season's ladder for each of its weeks.
+    /// The path with these rungs, one of the season's ladder for each of its weeks, from week 1.
+    ///
+    /// # Errors
+    /// Where memory is wanting.
     pub fn new(alloc: Global, season: &Season, rungs: &[u32]) -> Result<Path, AllocError>
         requires { IsPath season.now.rules rungs.now }
         ensures { IfOk result (λ path. path ≡ rungs.now) }

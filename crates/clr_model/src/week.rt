@@ -14,7 +14,7 @@ use clr_season::Season;
 /// The units of value in one cent.
 pub const CENT: u64 = 1_000_000;
 
-/// What a unit that is sold on a rung earns, in units of value. Rungs are from 1.
+/// What a unit that is sold on a rung, counted from 1, earns: its price, in units of value.
 pub fn unit_gain(season: &Season, rung: u32) -> u64
     requires low { 1 ≤ rung }
     requires high { rung ≤ length season.now.rules.prices }
@@ -24,7 +24,7 @@ pub fn unit_gain(season: &Season, rung: u32) -> u64
     CENT * season.price(rung)
 }
 
-/// What a store pays for a rung after another, in units of value: its cost of relabelling where the two
+/// What a store, counted from 1, pays for a rung after another, in units of value: its cost of relabelling where the two
 /// differ, and nothing where they don't.
 pub fn relabelling(season: &Season, store: u32, before: u32, rung: u32) -> u64
     requires low { 1 ≤ store }
@@ -39,7 +39,11 @@ pub fn relabelling(season: &Season, store: u32, before: u32, rung: u32) -> u64
     }
 }
 
-/// What a store earns in a week with this stock and this demand, on a rung after another, in units of value.
+/// What a store earns in a week, in units of value: the lesser of the stock and the demand at the rung's price, less the cost
+/// of relabelling where the rung isn't `before`, that of the week before.
+///
+/// Stores and rungs are counted from 1. The stock is at most what the store opens with, and the demand at most the greatest
+/// that the season lists.
 pub fn gain(season: &Season, store: u32, before: u32, rung: u32, stock: u32, demand: u32) -> i64
     requires low { 1 ≤ store }
     requires high { store ≤ length season.now.stores }
@@ -76,12 +80,12 @@ fn listed_weights(season: &Season, store: u32, week: u32, rung: u32) -> &[u32]
     listed(season.weights(store, week, rung))
 }
 
-/// Writes a store's values after `done` weeks, for the rung that it takes in the next week after another, and
-/// the values `after` that week at the stocks from 0 up. Each is the average over the week's demands of what the
-/// store earns and the value of what is left, rounded in the direction `R`.
+/// Writes a store's values after `done` weeks at the stocks from 0 up, in units of value, for a rung in the next week: each is
+/// the average over the week's demands of what the store earns and the value of what is left, rounded in the direction `R`. It
+/// is a week of docs/model.md, "The value of a path".
 ///
-/// `reach` is a size that no value of `after` passes. With the rung as the rung before, nothing is paid for
-/// relabelling.
+/// Stores and rungs are counted from 1, and `before` is the rung of the week before; where it is the same, nothing is paid for
+/// relabelling. `after` has the values after the week at the same stocks, and `reach` is a size that none of them passes.
 pub fn average_week<R: Direction>(
     season: &Season,
     store: u32,

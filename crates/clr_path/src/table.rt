@@ -36,7 +36,11 @@ impl<R: Direction> Model for PathTable<R> {
 }
 
 impl<R: Direction> PathTable<R> {
-    /// The table of a path of the season. Its total leans in the direction `R` from what the path earns in expectation.
+    /// The table of a path of the season. Its total leans in the direction `R` from what the path earns in expectation. The
+    /// values are those of docs/model.md, "The value of a path", in units, of which a cent has 10^6.
+    ///
+    /// # Errors
+    /// Where memory is wanting.
     pub fn build(alloc: Global, season: &Season, path: &Path) -> Result<PathTable<R>, AllocError>
         requires { IsPath season.now.rules path.now }
         ensures rows { IfOk result (λ table. table ≡ path_rows R.quotient season.now path.now) }

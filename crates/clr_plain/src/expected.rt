@@ -47,7 +47,10 @@ fn times(chance: u64, revenue: i64) -> i128
 /// outcomes of chance times revenue, taken one by one.
 ///
 /// There are as many outcomes as lists of a demand for each store and week. The base to the number of stores times weeks is at
-/// most 10^18, so that no sum is too large.
+/// most 10^18, so that no sum is too large. The definition is that of docs/model.md, "Outcomes, policies and expected revenue".
+///
+/// # Errors
+/// Where memory is wanting.
 pub fn expected_cents(alloc: Global, season: &Season, path: &Path) -> Result<i128, AllocError>
     requires path { IsPath season.now.rules path.now }
     requires small { season.now.base ^ (length season.now.stores * season.now.rules.weeks) ≤ 10 ^ 18 }

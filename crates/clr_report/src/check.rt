@@ -16,7 +16,11 @@ use std::alloc::{AllocError, Global};
 /// The check report on the claims of an accepted certificate: the season's sizes, that the certificate is accepted, its path
 /// with the prices and the revenue, its bound, and, where the season is small enough, its two numbers of all stores together.
 ///
-/// Each line ends with one line feed. The only error is want of memory.
+/// Each line ends with one line feed. The lines are those of docs/formats.md, "The check report". Values are in units, of which
+/// a cent has 10^6.
+///
+/// # Errors
+/// Where memory is wanting.
 pub fn check_text(alloc: Global, season: &Season, claims: &Claims) -> Result<Vec<u8>, AllocError>
     requires { IsPath season.now.rules claims.now.path }
     ensures { IfOk result (λ text. text.items ≡ check_text season.now (claims_of claims.now)) }

@@ -12,7 +12,10 @@ use std::alloc::{AllocError, Global};
 /// The judge report: the season's sizes, the number of the policy's rungs and tests, and the policy's value rounded down and
 /// rounded up, in units of 10^-8 of the currency.
 ///
-/// Each line ends with one line feed. The only error is want of memory.
+/// Each line ends with one line feed. The lines are those of docs/formats.md, "The judge report".
+///
+/// # Errors
+/// Where memory is wanting.
 pub fn judge_text(
     alloc: Global,
     season: &Season,

@@ -139,7 +139,7 @@ const USAGE: &[u8] =
 
 /// Writes the note of a cause to the front of the buffer, and gives its number of bytes.
 ///
-/// A note is one line with its line feed. Any cause has a note: a column that the document doesn't
+/// A note is one line with its line feed, of docs/formats.md, "Notes". Any cause has a note: a column that the document doesn't
 /// have is told by an empty name. This takes no memory.
 pub fn note_text(cause: &Cause, out: &mut [u8; 256]) -> usize
     ensures fits { result ≤ 256 }

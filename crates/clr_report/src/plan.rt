@@ -50,7 +50,10 @@ pub struct PlanFacts {
 /// policies with the step that gave it, the gap from the path's low value up to the bound, and the exact values of all stores
 /// together, which `facts` has exactly where the season is small enough.
 ///
-/// Each line ends with one line feed. The only error is want of memory.
+/// Each line ends with one line feed. The lines are those of docs/formats.md, "The plan report".
+///
+/// # Errors
+/// Where memory is wanting.
 #[tactic(auto, unfolding(crate::specs::PlanText::plan_text))]
 pub fn plan_text(alloc: Global, season: &Season, facts: &PlanFacts) -> Result<Vec<u8>, AllocError>
     requires { IsPlanOf season.now facts.now }

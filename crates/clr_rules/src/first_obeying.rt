@@ -29,6 +29,9 @@ fn least_lead(rules: &Rules, live: &Live, done: u32, s: Summary) -> (u32, Summar
 
 /// The first obeying path: of two paths the one with the lesser rung in the first week in which they differ comes first.
 /// It has a rung, counted from 1, for each week. `live` is that of these rules, and some path obeys.
+///
+/// # Errors
+/// Where memory is wanting.
 pub fn first_path(alloc: Global, rules: &Rules, live: &Live) -> Result<Vec<u32>, AllocError>
     requires live { live.now ≡ live_pairs rules.now }
     requires some { 0 < length live.now }

@@ -302,7 +302,11 @@ impl Model for Live {
 }
 
 impl Live {
-    /// The live summaries under these rules.
+    /// The live summaries under these rules. It sweeps over the summaries of all weeks, forward to what some prefix reaches and
+    /// back to what can still be ended.
+    ///
+    /// # Errors
+    /// Where memory is wanting.
     pub fn build(alloc: Global, rules: &Rules) -> Result<Live, AllocError>
         ensures pairs { IfOk result (λ live. live ≡ live_pairs rules.now) }
         ensures any { IfOk result (λ live. (0 < length live) ↔ SomePathObeys rules.now) }

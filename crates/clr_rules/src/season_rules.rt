@@ -35,7 +35,10 @@ impl Model for Calendar {
     ghost invariant = { λ c. length c.windows.items ≤ 52 };
 }
 
-/// The calendar of a season without one: each rung in each week, and no week frozen.
+/// The calendar of a season without one, for at most 52 weeks: each rung in each week, and no week frozen.
+///
+/// # Errors
+/// Where memory is wanting.
 pub fn free_calendar(alloc: Global, weeks: u32) -> Result<Calendar, AllocError>
     requires { weeks ≤ 52 }
     ensures { IfOk result (λ c. c ≡ free_weeks weeks) }
@@ -141,7 +144,11 @@ impl Model for Rules {
 }
 
 impl Rules {
-    /// The rules of these limits, this calendar and these prices in cents, the price of rung 1 first.
+    /// The rules of these limits, this calendar and these prices in cents, the price of rung 1 first. The calendar has a window
+    /// for each week, and the prices fall. The rules are those of docs/model.md, "The rules".
+    ///
+    /// # Errors
+    /// Where memory is wanting.
     pub fn new(
         alloc: Global,
         limits: Limits,

@@ -64,6 +64,7 @@ fn search_paths(alloc: Global, paths: &SeasonPaths, nodes: u64) -> Result<Found,
 /// prefix is tight where each proper nonempty prefix of it has a bound of at least the best low value of the seeds. The path is
 /// the best of the seeds and of the whole paths among the first tight prefixes, in list order and each before its extensions; of
 /// equal ones it is the first in list order. Where there are no more tight prefixes than `nodes`, it is the best of all obeying paths.
+/// The rule is that of docs/model.md, "The search".
 ///
 /// `live` is of the season, of which some path obeys, and `tables` has the table of each store, in order, under the multipliers.
 ///

@@ -66,10 +66,9 @@ pub enum SeasonError {
 /// The season of a folder: of its files rules.json, calendar.csv (where the rules say that there is one), ladder.csv,
 /// stock.csv and demand.csv, in this order. Each is held, not too long and read before the next is opened. The season's
 /// version is that of rules.json: from version 2 on stock.csv has a cost of relabelling, and in version 3 the weights are
-/// scaled to the base.
+/// scaled to the base. The rules of the files are those of docs/formats.md, "The files of a season".
 ///
 /// # Errors
-///
 /// The first thing that stands against the season: file by file `Read` (only where the shelf's faults rose), `Absent`,
 /// `TooLong` (only where more than 33,554,432 bytes were taken) and `Refused`, the first refusal of the file's content;
 /// and behind all files `Cells`. `Memory` may come anywhere. Whatever comes, the shelf stands where its last call left

@@ -49,8 +49,9 @@ fn asked_by(alloc: Global, matches: &ArgMatches<'_>) -> Result<Asked, WordsError
     })
 }
 
-/// What the words behind the program's name ask.
+/// What the words behind the program's name ask: those of docs/formats.md, "Words".
 ///
+/// # Errors
 /// `Faulty` comes exactly where `clap` refuses the words for another cause than memory, `--help`
 /// and `--version` among them, or the job is none of `plan`, `check`, `judge` and `make`. Want of
 /// memory may come in place of any answer.
