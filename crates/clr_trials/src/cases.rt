@@ -4,7 +4,7 @@ use crate::fields::{is_counted, is_cut, is_in_range, is_judged, is_tabled};
 use crate::lines::{is_fault, is_read_by_each};
 use crate::multipliers::is_stepped;
 use crate::numbers::{is_divided, is_printed};
-use crate::rules::{is_first, is_live, is_week};
+use crate::rules::{is_first, is_live, is_week, is_windowed};
 use crate::rules_files::{are_limits, are_nested, is_calendar};
 use crate::stores::{is_ladder, is_shown};
 use crate::{fields, words};
@@ -34,6 +34,7 @@ pub(crate) enum Kind {
     Cents,
     Quotient,
     Week,
+    Windowed,
     Live,
     Path,
     Limits,
@@ -68,6 +69,7 @@ fn holds(alloc: Global, kind: Kind, case: &str) -> Result<bool, AllocError> {
         Kind::Cents => is_printed(alloc, case, false),
         Kind::Quotient => Ok(is_divided(case)),
         Kind::Week => is_week(alloc, case),
+        Kind::Windowed => is_windowed(alloc, case),
         Kind::Live => is_live(alloc, case),
         Kind::Path => is_first(alloc, case),
         Kind::Limits => are_limits(alloc, case),

@@ -1,7 +1,8 @@
 // Seasons over one ladder and without a calendar, with what their rules say counted by hand.
 use crate::cases::{Kind, assert_cases};
 use crate::tables::{numbers, sides};
-use clr_rules::{Limits, Live, Rule, Rules, Summary, first_path, free_calendar};
+use clr_rules::{Limits, Live, Rule, Rules, Summary, first_path, free_calendar, read_calendar};
+use clr_text::FileError;
 use std::alloc::{AllocError, Global};
 use std::test::Fail;
 
@@ -113,6 +114,63 @@ fn weeks_by_their_rules(rt: HostRuntime) -> Result<(), Fail> {
     assert_cases(&rt, rt.alloc(), Kind::Week, WEEKS)
 }
 
+// Four weeks in which the second is frozen within its window, and the first and the third have windows.
+const CALENDAR: &[u8] = b"week,from,to,frozen\n1,1,2,0\n2,1,3,1\n3,2,3,0\n";
+
+fn windowed_rules(alloc: Global) -> Result<Rules, FileError> {
+    let calendar = read_calendar(alloc, CALENDAR, 4)?;
+    match Rules::new(alloc, FREE, calendar, &LADDER) {
+        Ok(rules) => Ok(rules),
+        Err(_) => Err(FileError::Memory),
+    }
+}
+
+// The weeks done, the last rung, count and age of their summary, and the rung of the next week, in those four weeks. A rise is
+// judged before a window, and a window before a frozen week.
+const WINDOWED: &str = "0 1 0 1 1=>Ok((1, 0, 1))
+0 1 0 1 2=>Ok((2, 1, 1))
+0 1 0 1 3=>Err(Window)
+1 1 0 1 1=>Ok((1, 0, 1))
+1 1 0 1 2=>Err(Frozen)
+1 1 0 1 3=>Err(Frozen)
+1 1 0 1 4=>Err(Window)
+1 2 1 1 2=>Ok((2, 1, 1))
+1 2 1 1 1=>Err(Rise)
+2 1 0 1 1=>Err(Window)
+2 1 0 1 2=>Ok((2, 1, 1))
+2 1 0 1 3=>Ok((3, 1, 1))
+2 1 0 1 4=>Err(Window)
+2 2 1 1 1=>Err(Rise)
+2 2 1 1 2=>Ok((2, 1, 1))
+3 2 1 1 4=>Ok((4, 2, 1))";
+
+pub(crate) fn is_windowed(alloc: Global, case: &str) -> Result<bool, AllocError> {
+    let (text, want) = sides(case);
+    let [done, last, count, age, rung, _, _, _] = numbers(text);
+    let Ok(rules) = windowed_rules(alloc) else {
+        return Ok(false);
+    };
+    match week(&rules, done, Summary { last, count, age }, rung) {
+        Some(got) => Ok(format!(in alloc; "{got:?}")?.as_str() == want),
+        None => Ok(false),
+    }
+}
+
+// The first path waits for the week in which a window asks for a markdown.
+fn is_windowed_path(alloc: Global) -> Result<bool, AllocError> {
+    let Ok(rules) = windowed_rules(alloc) else {
+        return Ok(false);
+    };
+    let path = path_of(alloc, &rules)?;
+    Ok(path.as_slice() == [1, 1, 2, 2].as_slice())
+}
+
+#[test]
+fn weeks_by_their_calendar(rt: HostRuntime) -> Result<(), Fail> {
+    assert!(rt; is_windowed_path(rt.alloc())?);
+    assert_cases(&rt, rt.alloc(), Kind::Windowed, WINDOWED)
+}
+
 // The place of a live summary and the one after it, by each call that tells of it.
 fn place_and_next(live: &Live, done: u32, s: Summary) -> (Option<u32>, Option<Numbers>) {
     if !live.has(done, s) {
@@ -145,7 +203,7 @@ const LIVE: &str = "0 1 0 2=>(Some(0), None)
 
 fn two_weeks(alloc: Global) -> Result<Live, AllocError> {
     let rules = rules_of(alloc, TWO_WEEKS)?;
-    Live::build(alloc, &rules)
+    Live::build(alloc, &rules)?.copy(alloc)
 }
 
 pub(crate) fn is_live(alloc: Global, case: &str) -> Result<bool, AllocError> {

@@ -2,10 +2,11 @@
 use crate::seasons::sides;
 use clr_cert::{No, NoKind};
 use clr_report::{Cause, Doc, note_text};
+use clr_rules::Rule;
 use clr_text::Why;
 
-// Causes as words, and the lines that tell them: of refusals by files, rows, columns and reasons, and of a certificate's row 29 by
-// kinds with their two sides.
+// Causes as words, and the lines that tell them: of refusals by files, rows, columns and reasons, of a policy's branches by their
+// numbers and rules, and of a certificate's row 29 by kinds with their two sides.
 const CAUSES: &str =
     "Words=>usage: clearance plan|check|judge|make FOLDER [--steps N] [--step N] [--nodes N] [--cert NAME] [--seed N]
 NoPath=>no path
@@ -16,10 +17,28 @@ ReadFault Stock=>read fault: stock.csv
 ReadFault Demand=>read fault: demand.csv
 Absent Demand=>absent: demand.csv
 Absent Policy=>absent: policy.json
+Absent Certificate=>absent: certificate
+ReadFault Certificate=>read fault: certificate
+ReadFault Policy=>read fault: policy.json
+WriteFault Rules=>write fault: rules.json
 WriteFault Certificate=>write fault: certificate
 WriteFault Report=>write fault: report
 TooLong Demand 33554432=>limit: demand.csv longer than 33554432
+TooLong Certificate 268435456=>limit: certificate longer than 268435456
 Cells 16000250=>limit: cells 16000250
+Size 100000001=>limit: policy size 100000001
+Size 18446744073709551615=>limit: policy size 18446744073709551615
+Base=>limit: base
+PolicyJson=>policy no: json
+PolicyShape 1=>policy no: branch 1 shape
+PolicyShape 4294967295=>policy no: branch 4294967295 shape
+PolicyUnknown 12=>policy no: branch 12 unknown
+PolicyRule 1 Rise=>policy no: branch 1 rise
+PolicyRule 2 Window=>policy no: branch 2 window
+PolicyRule 3 Frozen=>policy no: branch 3 frozen
+PolicyRule 40 Number=>policy no: branch 40 number
+PolicyRule 50 Spacing=>policy no: branch 50 spacing
+PolicyRule 600 FirstCut=>policy no: branch 600 firstcut
 Memory=>memory
 Refused Rules 0 0 Json=>refused: rules.json json
 Refused Rules 0 0 Field=>refused: rules.json field
@@ -194,6 +213,33 @@ fn certificate_no(text: &str) -> Option<Cause> {
     Some(Cause::CertificateNo { no })
 }
 
+fn rule_of(name: &str) -> Option<Rule> {
+    match name {
+        "Rise" => Some(Rule::Rise),
+        "Window" => Some(Rule::Window),
+        "Frozen" => Some(Rule::Frozen),
+        "Number" => Some(Rule::Number),
+        "Spacing" => Some(Rule::Spacing),
+        "FirstCut" => Some(Rule::FirstCut),
+        _ => None,
+    }
+}
+
+// What ails a branch of a policy: its number, and behind it the rule that it breaks.
+fn policy_cause(name: &str, text: &str) -> Option<Cause> {
+    let (branch, rule) = word(text);
+    let branch = small(branch);
+    match name {
+        "PolicyShape" => Some(Cause::PolicyShape { branch }),
+        "PolicyUnknown" => Some(Cause::PolicyUnknown { branch }),
+        "PolicyRule" => Some(Cause::PolicyRule {
+            branch,
+            rule: rule_of(rule)?,
+        }),
+        _ => None,
+    }
+}
+
 // The cause that some words are.
 fn read_cause(words: &str) -> Option<Cause> {
     let (name, text) = word(words);
@@ -202,6 +248,10 @@ fn read_cause(words: &str) -> Option<Cause> {
         "NoPath" => Some(Cause::NoPath),
         "Memory" => Some(Cause::Memory),
         "Cells" => Some(Cause::Cells { found: large(text) }),
+        "Size" => Some(Cause::Size { found: large(text) }),
+        "Base" => Some(Cause::Base),
+        "PolicyJson" => Some(Cause::PolicyJson),
+        "PolicyShape" | "PolicyUnknown" | "PolicyRule" => policy_cause(name, text),
         "No" => certificate_no(text),
         _ => {
             let (doc, text) = word(text);
