@@ -1,5 +1,5 @@
 -- The weights that a flat table holds are those that its rows list.
-use Rattle.std.proofs.Common.{◌≡◌, ◌≤◌, ◌<◌, ◌+◌, ◌*◌, ◌/◌, ◌%◌, ◌∙◌, ℕ, zero, suc, List, [], ◌∷◌, length, map, drop, get_or, refl, ap, ap₂, arith, Bool, true, false}
+use Rattle.std.proofs.Common.{◌≡◌, ◌≤◌, ◌<◌, ◌+◌, ◌*◌, ◌/◌, ◌%◌, ◌∙◌, ℕ, zero, suc, List, [], ◌∷◌, length, map, refl, ap, ap₂, arith, Bool, true, false}
 use Rattle.std.specs.Prelude.{sum, ◌==◌, ◌&&◌, nat_lt, Result, Ok, Err, MatchResult}
 use Rattle.clr_text.specs.Judged.{◌>>=◌}
 use Rattle.clr_text.specs.Tables.{Gives, Refusal}
@@ -7,53 +7,23 @@ use Rattle.clr_text.specs.declared.file.FileError.{FileError}
 use Rattle.clr_text.specs.declared.file.FileError.TheVariants.{Refused, Memory}
 use Rattle.std.proofs.Math.Nat.{mod_self}
 use Rattle.std.proofs.lemmas.Bool.{eqb-true}
-use Rattle.std.proofs.lemmas.List.{get_or-drop, get_or-take, length-drop, length-take-le}
-use Rattle.std.proofs.lemmas.List.Sums.{sum_by-cons}
 use Rattle.std.proofs.lemmas.Simd.{map-map}
 use Rattle.clr_num.specs.Lists.{nth, numbers}
-use Rattle.clr_demand.proofs.BalanceLemmas.{AllBalance, rows-balance}
+use Rattle.clr_demand.proofs.BalanceLemmas.{AllBalance, IsPlace, rows-balance}
 use Rattle.clr_demand.proofs.RowLemmas.{such-given}
 use Rattle.clr_demand.proofs.ScaleLemmas.{sum-scaled}
-use Rattle.clr_demand.proofs.TotalLemmas.{in-units, listed-sum, sum_to-same}
-use Rattle.clr_demand.proofs.WeightLemmas.{length-map-numbers, nested-row, nth-map-numbers, row-fits}
-use Rattle.clr_demand.specs.Demand.{GivesSuch, balances, demand_of, key, listed_weight, rows_of, sum_to, top_of, total, weight_of, weights_of}
+use Rattle.clr_demand.proofs.RowTotals.{fits, is-in, length-flat, listed-total, old-row, row-total}
+use Rattle.clr_demand.proofs.WeightLemmas.{length-map-numbers, nested-row, nth-map-numbers}
+use Rattle.clr_demand.specs.Demand.{GivesSuch, Listed, Sizes, balances, demand_of, key, listed_weight, rows_of, top_of, total, weight_of, weights_of}
 use Rattle.clr_demand.specs.FlatWeights.{IsBalanced, weights_in}
-use Rattle.clr_demand.specs.Places.{AreCells, HoldsRows, IsIn, place}
+use Rattle.clr_demand.specs.Places.{AreCells, HoldsRows, IsIn}
 use Rattle.clr_demand.specs.Weights.{AreWeights, DemandWeights, flat_row, row_number, scaled_row}
 use Rattle.clr_demand.specs.declared.cells.Cells.{Cells}
-use Rattle.clr_demand.specs.declared.row.Listed.{Listed}
-use Rattle.clr_demand.specs.declared.row.Sizes.{Sizes}
 use Rattle.clr_demand.specs.declared.shape.Shape.{Shape}
-
--- a list by its items
-from-items : (f : ℕ → ℕ) (from : ℕ) (xs : List ℕ) → ((u : ℕ) → u < length xs → get_or xs u 0 ≡ f (from + u)) → xs ≡ map f (numbers from (length xs))
-from-items f from [] items = refl
-from-items f from (x ∷ xs) items =
-    let start : from + 0 ≡ from = omega arith in
-    let first : x ≡ f from = items 0 (omega arith) ∙ ap f start in
-    ap₂ ◌∷◌ first (from-items f (suc from) xs (λ u less. let next : from + suc u ≡ suc from + u = omega arith in items (suc u) (omega arith) ∙ ap f next))
 
 map-same : {X : Type 0} (f g : ℕ → X) (from count : ℕ) → ((i : ℕ) → from ≤ i → i < from + count → f i ≡ g i) → map f (numbers from count) ≡ map g (numbers from count)
 map-same f g from zero same = refl
 map-same f g from (suc count) same = ap₂ ◌∷◌ (same from (omega arith) (omega arith)) (map-same f g (suc from) count (λ i low high. same i (omega arith) (omega arith)))
-
-sum_to-front : (n : ℕ) (f : ℕ → ℕ) → sum_to (suc n) f ≡ f 0 + sum_to n (λ i. f (suc i))
-sum_to-front zero f = omega arith
-sum_to-front (suc n) f = let ih = sum_to-front n f in omega (arith, ih)
-
-sum-numbers : (f : ℕ → ℕ) (from count : ℕ) → sum (map f (numbers from count)) ≡ sum_to count (λ i. f (from + i))
-sum-numbers f from zero = refl
-sum-numbers f from (suc count) =
-    let ih = sum-numbers f (suc from) count in
-    let start : from + 0 ≡ from = omega arith in
-    let front = sum_to-front count (λ i. f (from + i)) in
-    let shift = sum_to-same count (λ i. f (suc from + i)) (λ i. f (from + suc i)) (λ u l. let next : suc from + u ≡ from + suc u = omega arith in ap f next) in
-    sum_by-cons (λ (n : ℕ). n) (f from) (map f (numbers (suc from) count)) ∙ omega (arith, ih, shift, front, ap f start)
-
-length-flat : (shape : Shape) (flat : List ℕ) (row : ℕ) → (row + 1) * (shape.top + 1) ≤ length flat → length (flat_row (shape.top + 1) flat row) ≡ shape.top + 1
-length-flat shape flat row fits =
-    let rest : shape.top + 1 ≤ length (drop (row * (shape.top + 1)) flat) = omega (arith, length-drop (row * (shape.top + 1)) flat, fits) in
-    length-take-le (shape.top + 1) (drop (row * (shape.top + 1)) flat) rest
 
 both-second : (a b : Bool) → (a && b) ≡ true → b ≡ true
 both-second true b e = e
@@ -64,63 +34,37 @@ even : (scaled : Bool) (base found : ℕ) → balances scaled base found ≡ tru
 even false base found e = let same : found ≡ base = eqb-true found base e in rw same (mod_self base)
 even true base found e = eqb-true (base % found) 0 (both-second (nat_lt 0 found) (base % found == 0) e)
 
-is-in : (shape : Shape) (store week rung : ℕ) → 1 ≤ store → store ≤ shape.stores → 1 ≤ week → week ≤ shape.weeks → 1 ≤ rung → rung ≤ shape.rungs → IsIn shape (key store week rung 0)
-is-in shape store week rung s1 s2 w1 w2 r1 r2 = record { store_low = s1; store_high = s2; week_low = w1; week_high = w2; rung_low = r1; rung_high = r2; units_high = omega arith }
-
--- what stands at a place of a row
-row-item : (shape : Shape) (flat : List ℕ) (store week rung u : ℕ) → u < shape.top + 1 →
-    get_or (flat_row (shape.top + 1) flat (row_number shape.weeks shape.rungs store week rung)) u 0 ≡ get_or flat (place shape (key store week rung u)) 0
-unfolding place
-row-item shape flat store week rung u less =
-    let start = row_number shape.weeks shape.rungs store week rung * (shape.top + 1) in
-    get_or-take (shape.top + 1) (drop start flat) u 0 less ∙ get_or-drop start flat u 0
-
 module _ (shape : Shape) (sizes : Sizes) (scaled : Bool) (listed : List Listed) (rows old new : List ℕ)
     (cells : AreCells shape rows old listed) (top_is : shape.top ≡ top_of listed) (weeks_are : shape.weeks ≡ sizes.weeks) (rungs_are : shape.rungs ≡ sizes.rungs)
     (balance : AllBalance shape.stores sizes scaled listed) (len : length new ≡ length old)
     (brought : (row : ℕ) → (row + 1) * (shape.top + 1) ≤ length old → flat_row (shape.top + 1) new row ≡ scaled_row sizes.base (flat_row (shape.top + 1) old row)) where
-  fits : (store week rung : ℕ) → IsIn shape (key store week rung 0) → (row_number shape.weeks shape.rungs store week rung + 1) * (shape.top + 1) ≤ length old
-  fits store week rung i = omega (arith, row-fits shape store week rung i.store_low i.store_high i.week_low i.week_high i.rung_low i.rung_high, cells.weights_size)
-
-  old-row : (store week rung : ℕ) → IsIn shape (key store week rung 0) →
-      flat_row (shape.top + 1) old (row_number shape.weeks shape.rungs store week rung) ≡ map (λ u. listed_weight listed (key store week rung u)) (numbers 0 (shape.top + 1))
-  old-row store week rung i =
-      let row = flat_row (shape.top + 1) old (row_number shape.weeks shape.rungs store week rung) in
-      let long : length row ≡ shape.top + 1 = length-flat shape old (row_number shape.weeks shape.rungs store week rung) (fits store week rung i) in
-      let item : (u : ℕ) → u < length row → get_or row u 0 ≡ listed_weight listed (key store week rung (0 + u)) =
-      λ u less.
-      let under : u < shape.top + 1 = omega (arith, less, long) in
-      let plain : u ≡ 0 + u = omega arith in
-      row-item shape old store week rung u under
-      ∙ (cells.weight_at (key store week rung u) (in-units shape store week rung u i (omega arith)) ∙ ap (λ t. listed_weight listed (key store week rung t)) plain) in
-      from-items (λ u. listed_weight listed (key store week rung u)) 0 row item
-      ∙ ap (λ t. map (λ u. listed_weight listed (key store week rung u)) (numbers 0 t)) long
-
-  listed-total : (store week rung : ℕ) → sum (map (λ u. listed_weight listed (key store week rung u)) (numbers 0 (shape.top + 1))) ≡ total listed store week rung
-  listed-total store week rung =
-      sum-numbers (λ u. listed_weight listed (key store week rung u)) 0 (shape.top + 1)
-      ∙ (sum_to-same (shape.top + 1) (λ u. listed_weight listed (key store week rung (0 + u))) (λ u. listed_weight listed (key store week rung u)) (λ u l. let plain : 0 + u ≡ u = omega arith in ap (λ t. listed_weight listed (key store week rung t)) plain)
-      ∙ listed-sum shape.top store week rung listed cells.within)
-
   new-row : (store week rung : ℕ) → IsIn shape (key store week rung 0) →
       flat_row (shape.top + 1) new (row_number shape.weeks shape.rungs store week rung) ≡ map (λ u. weight_of sizes.base listed store week rung u) (numbers 0 (suc shape.top))
   new-row store week rung i =
       let f : ℕ → ℕ = λ u. listed_weight listed (key store week rung u) in
       let ns = numbers 0 (shape.top + 1) in
       let wide : shape.top + 1 ≡ suc shape.top = omega arith in
-      brought (row_number shape.weeks shape.rungs store week rung) (fits store week rung i)
-      ∙ (ap (scaled_row sizes.base) (old-row store week rung i)
+      brought (row_number shape.weeks shape.rungs store week rung) (fits shape listed rows old cells store week rung i)
+      ∙ (ap (scaled_row sizes.base) (old-row shape listed rows old cells store week rung i)
       ∙ (map-map (λ (w : ℕ). w * (sizes.base / sum (map f ns))) f ns
-      ∙ (ap (λ t. map (λ u. f u * (sizes.base / t)) ns) (listed-total store week rung)
+      ∙ (ap (λ t. map (λ u. f u * (sizes.base / t)) ns) (listed-total shape listed rows old cells store week rung)
       ∙ ap (λ t. map (λ u. weight_of sizes.base listed store week rung u) (numbers 0 t)) wide)))
 
   new-sum : (store week rung : ℕ) → IsIn shape (key store week rung 0) → sum (flat_row (shape.top + 1) new (row_number shape.weeks shape.rungs store week rung)) ≡ sizes.base
   new-sum store week rung i =
       let row = flat_row (shape.top + 1) old (row_number shape.weeks shape.rungs store week rung) in
-      let found : sum row ≡ total listed store week rung = ap sum (old-row store week rung i) ∙ listed-total store week rung in
-      let balances_here = balance store week rung i.store_low i.store_high i.week_low (omega (arith, i.week_high, weeks_are)) i.rung_low (omega (arith, i.rung_high, rungs_are)) in
+      let found : sum row ≡ total listed store week rung = row-total shape listed rows old cells store week rung i in
+      let within : IsPlace shape.stores sizes.weeks sizes.rungs (record { store = store; week = week; rung = rung }) = record {
+        store_low = i.store_low;
+        store_high = i.store_high;
+        week_low = i.week_low;
+        week_high = omega (arith, i.week_high, weeks_are);
+        rung_low = i.rung_low;
+        rung_high = omega (arith, i.rung_high, rungs_are);
+      } in
+      let balances_here = balance (record { store = store; week = week; rung = rung }) within in
       let divides : sizes.base % sum row ≡ 0 = rw found (even scaled sizes.base (total listed store week rung) balances_here) in
-      ap sum (brought (row_number shape.weeks shape.rungs store week rung) (fits store week rung i)) ∙ sum-scaled sizes.base row divides
+      ap sum (brought (row_number shape.weeks shape.rungs store week rung) (fits shape listed rows old cells store week rung i)) ∙ sum-scaled sizes.base row divides
 
   -- the table holds the weights of the rows
   pub weights-same : weights_in shape sizes.base new ≡ weights_of shape.stores sizes listed
@@ -159,7 +103,7 @@ module _ (shape : Shape) (sizes : Sizes) (scaled : Bool) (listed : List Listed) 
         let i = is-in shape store week rung s1 s2 w1 w2 r1 r2 in
         let wide : shape.top + 1 ≡ suc shape.top = omega arith in
         ap length (nested-row shape.stores shape.weeks shape.rungs (shape.top + 1) new store week rung s1 s2 w1 w2 r1 r2)
-        ∙ (length-flat shape new (row_number shape.weeks shape.rungs store week rung) (omega (arith, fits store week rung i, len)) ∙ wide);
+        ∙ (length-flat shape new (row_number shape.weeks shape.rungs store week rung) (omega (arith, fits shape listed rows old cells store week rung i, len)) ∙ wide);
     sums = λ store week rung s1 s2 w1 w2 r1 r2.
         ap sum (nested-row shape.stores shape.weeks shape.rungs (shape.top + 1) new store week rung s1 s2 w1 w2 r1 r2) ∙ new-sum store week rung (is-in shape store week rung s1 s2 w1 w2 r1 r2);
   }

@@ -61,20 +61,24 @@ fn sum_of(weights: &[u32]) -> u32
     weights.iter().sum()
 }
 
-/// The demand of demand.csv: rows of a store's name, a week, a rung, units from 0 to 200 and their
-/// weight out of the base. The rows stand in any order, and what no row lists weighs 0.
+/// The demand of demand.csv, of at most 33,554,432 bytes, with the columns `store`, `week`, `rung`,
+/// `units` and `weight`: a store's name, a week, a rung, units from 0 to 200 and their weight out
+/// of the base. The rows stand in any order, and what no row lists weighs 0.
 ///
-/// Where `scaled`, the listed weights of a store, a week and a rung may sum to any divisor of the
-/// base, and are multiplied so that they sum to it.
+/// The season has the stores of `names`, 1 to 64, numbered from 1 as they are there, 1 to 52
+/// `weeks` and 1 to 12 `rungs`, and a `base` of 1 to 1,000,000. Where `scaled`, the listed weights
+/// of a store, a week and a rung may sum to any divisor of the base, and are multiplied so that
+/// they sum to it.
 ///
 /// # Errors
 ///
 /// The file's first refusal. First `Header` and then `Fields` over all rows. Then row by row, from
 /// the left: `Unknown` of a store that isn't among the names; `Number` and `Range` of the week, the
-/// rung, the units and the weight, which is at most the base; `Repeat` of a row that lists the
-/// same store, week, rung and units. Last `Total`, at row 0, names the first store, week and rung
-/// whose listed weights don't sum to the base, or, where `scaled`, sum to 0 or to no divisor of it,
-/// with their sum. `Memory` is want of memory.
+/// rung, the units and the weight, which is at most the base; and last in a row, at column 0,
+/// `Repeat` with the first row that lists the same store, week, rung and units. Behind all rows, at
+/// row 0, `Total` with the sum of the first store, week and rung whose listed weights don't sum to
+/// the base, or, where `scaled`, sum to 0 or to no divisor of it. They are in the order of stores,
+/// then weeks, then rungs. `Memory` may come in place of any answer.
 pub fn read_demand(
     alloc: Global,
     bytes: &[u8],
@@ -93,10 +97,7 @@ pub fn read_demand(
     ensures facts { IfOk result (λ d. AreWeights (length names.now) weeks rungs base d) }
 {
     let sizes = Sizes { weeks, rungs, base };
-    let cells = match read_balanced(alloc, bytes, names, sizes, scaled) {
-        Ok(cells) => cells,
-        Err(error) => return Err(error),
-    };
+    let cells = read_balanced(alloc, bytes, names, sizes, scaled)?;
     let Cells { shape, weights, .. } = cells;
     Ok(Demand {
         shape,
@@ -115,7 +116,8 @@ impl Demand {
         self.shape.top
     }
 
-    /// The weights of a store, a week and a rung, by units from 0 to the greatest.
+    /// The weights of a store, a week and a rung, each from 1, out of the base: at each index, from
+    /// 0 to the greatest units, that of a demand of so many units.
     pub fn weights(&self, store: u32, week: u32, rung: u32) -> &[u32]
         requires store { (1 ≤ store) × (store ≤ self.now.stores) }
         requires week { (1 ≤ week) × (week ≤ self.now.weeks) }
@@ -129,7 +131,8 @@ impl Demand {
         row_of(&self.weights, self.shape, store, week, rung)
     }
 
-    /// The weight of a demand of so many units, out of the base.
+    /// The weight of a demand of so many units, from 0 to the greatest, at a store, in a week and
+    /// on a rung, each from 1, out of the base.
     pub fn weight(&self, store: u32, week: u32, rung: u32, units: u32) -> u32
         requires store { (1 ≤ store) × (store ≤ self.now.stores) }
         requires week { (1 ≤ week) × (week ≤ self.now.weeks) }
@@ -140,8 +143,9 @@ impl Demand {
         self.weights(store, week, rung)[units as usize]
     }
 
-    /// The weight of all demands of at least so many units, out of the base. One unit past the
-    /// greatest it is 0.
+    /// The weight of all demands of at least so many units at a store, in a week and on a rung,
+    /// each from 1, out of the base. Of 0 units it is the base, and one unit past the greatest it
+    /// is 0.
     pub fn tail(&self, store: u32, week: u32, rung: u32, units: u32) -> u32
         requires store { (1 ≤ store) × (store ≤ self.now.stores) }
         requires week { (1 ≤ week) × (week ≤ self.now.weeks) }

@@ -3,7 +3,7 @@ ghost use Rattle.std.specs.Prelude.{◌≡◌, ◌≤◌, ◌<◌, ◌+◌, ◌*
 ghost use Rattle.clr_demand.specs.Weights.{flat_row, scaled_row};
 
 // The sum of a row.
-fn sum_of_row(row: &[u32]) -> u64
+pub(crate) fn sum_of_row(row: &[u32]) -> u64
     requires { length row.now ≤ 201 }
     ensures { result ≡ sum row.now }
 {

@@ -11,9 +11,9 @@ use Rattle.clr_num.specs.Money.{padded}
 use Rattle.clr_text.specs.Judged.{judged}
 use Rattle.clr_text.specs.Names.{number_of}
 use Rattle.clr_text.specs.Tables.{table_of}
-use Rattle.clr_demand.specs.Demand.{IsListed, demand_columns, demand_row, listed_at, listed_of, row_from, same_demand}
+use Rattle.clr_demand.specs.Demand.{IsListed, Listed, demand_columns, demand_row, listed_at, listed_of, row_from, same_demand}
 use Rattle.clr_make.specs.Made.{demand_rows, lines, made_demand, store_name}
-use Rattle.clr_make.proofs.DemandRows.{AreInOrder, Listed, fields_of, listed-fields, made-order, made_listed, made_sizes, place, place_of}
+use Rattle.clr_make.proofs.DemandRows.{AreInOrder, fields_of, listed-fields, made-order, made_listed, made_sizes, place, place_of}
 use Rattle.clr_make.proofs.FieldLemmas.{number-read, plain-decimal, plain-name}
 use Rattle.clr_make.proofs.RangeLemmas.{passes-at}
 use Rattle.clr_make.proofs.TableLemmas.{IsPlain, IsPlainRow, table-read}

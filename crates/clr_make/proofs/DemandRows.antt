@@ -2,22 +2,9 @@
 use Rattle.std.proofs.Common.{◌≡◌, ◌<◌, ◌≤◌, ◌+◌, ◌*◌, ◌∙◌, ℕ, zero, suc, List, [], ◌∷◌, ◌++◌, length, map, refl, ap, arith}
 use Rattle.std.specs.List.{flat_map}
 use Rattle.clr_num.specs.Lists.{numbers}
-use Rattle.clr_demand.specs.Demand.{IsListed, balanced_rung, top_of}
+use Rattle.clr_demand.specs.Demand.{IsListed, Listed, Sizes}
 use Rattle.clr_make.specs.Made.{demand_fields, demand_rows, demand_rows_from, least_demand, rung_rows, store_rows, week_rows}
 use Rattle.clr_make.proofs.RangeLemmas.{map-flat}
-
--- The types of a row and of the sizes, which their crate keeps to itself.
-abbrev item_of : (A B : Type 0) → (List A → B) → Type 0
-item_of A B f = A
-
-abbrev first_of : (A B : Type 0) → (A → B) → Type 0
-first_of A B f = A
-
-abbrev pub Listed : Type 0
-Listed = item_of _ _ top_of
-
-abbrev pub Sizes : Type 0
-Sizes = first_of _ _ balanced_rung
 
 abbrev pub made_sizes : Sizes
 made_sizes = record { weeks = 12; rungs = 6; base = 100 }

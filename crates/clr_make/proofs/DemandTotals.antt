@@ -5,12 +5,12 @@ use Rattle.std.specs.List.{flat_map, sum_by}
 use Rattle.std.proofs.lemmas.Bool.{eq-eqb, eqb-true, ne_eqb}
 use Rattle.std.proofs.lemmas.List.Sums.{sum_by-append}
 use Rattle.clr_num.specs.Lists.{numbers}
-use Rattle.clr_text.specs.Tables.{Refusal}
-use Rattle.clr_demand.specs.Demand.{balanced, balanced_rung, balanced_store, balanced_week, demand_of, each, rows_of, total, weights_of}
+use Rattle.clr_demand.specs.Demand.{Listed, balanced, demand_of, rows_of, total, weights_of}
+use Rattle.clr_demand.proofs.BalanceLemmas.{all-balanced}
 use Rattle.clr_demand.specs.Weights.{DemandWeights}
 use Rattle.clr_make.specs.Made.{made_demand}
 use Rattle.clr_make.proofs.DemandReads.{listed-read, store_names}
-use Rattle.clr_make.proofs.DemandRows.{Listed, made_listed, made_sizes, rung_listed, store_listed, week_listed}
+use Rattle.clr_make.proofs.DemandRows.{made_listed, made_sizes, rung_listed, store_listed, week_listed}
 
 -- ---- a sum over rows that are listed number by number
 
@@ -111,26 +111,9 @@ made-total seed store week rung a b c d e f =
 
 -- ---- the judgement of the totals
 
-each-good : (judge : ℕ → List Listed → Result (List Listed) Refusal) (from count : ℕ) (rows : List Listed) → ((n : ℕ) → from ≤ n → n < from + count → judge n rows ≡ Ok rows) → each judge (numbers from count) rows ≡ Ok rows
-each-good judge from zero rows good = refl
-each-good judge from (suc count) rows good =
-    rw (good from (omega arith) (omega arith)) (each-good judge (suc from) count rows (λ n low high. good n (omega arith) (omega arith)))
-
-rung-balanced : (seed store week rung : ℕ) → 1 ≤ store → store ≤ 24 → 1 ≤ week → week ≤ 12 → 1 ≤ rung → rung ≤ 6 → balanced_rung made_sizes false store week rung (made_listed seed) ≡ Ok (made_listed seed)
-unfolding balanced_rung
-rung-balanced seed store week rung a b c d e f = rw (made-total seed store week rung a b c d e f) refl
-
-week-balanced : (seed store week : ℕ) → 1 ≤ store → store ≤ 24 → 1 ≤ week → week ≤ 12 → balanced_week made_sizes false store week (made_listed seed) ≡ Ok (made_listed seed)
-unfolding balanced_week
-week-balanced seed store week a b c d = each-good (balanced_rung made_sizes false store week) 1 6 (made_listed seed) (λ n low high. rung-balanced seed store week n a b c d low (omega arith))
-
-store-balanced : (seed store : ℕ) → 1 ≤ store → store ≤ 24 → balanced_store made_sizes false store (made_listed seed) ≡ Ok (made_listed seed)
-unfolding balanced_store
-store-balanced seed store a b = each-good (balanced_week made_sizes false store) 1 12 (made_listed seed) (λ n low high. week-balanced seed store n a b low (omega arith))
-
-all-balanced : (seed : ℕ) → balanced 24 made_sizes false (made_listed seed) ≡ Ok (made_listed seed)
-unfolding balanced
-all-balanced seed = each-good (balanced_store made_sizes false) 1 24 (made_listed seed) (λ n low high. store-balanced seed n low (omega arith))
+made-balanced : (seed : ℕ) → balanced 24 made_sizes false (made_listed seed) ≡ Ok (made_listed seed)
+made-balanced seed =
+    all-balanced 24 made_sizes false (made_listed seed) (λ at is. rw (made-total seed at.store at.week at.rung is.store_low is.store_high is.week_low is.week_high is.rung_low is.rung_high) refl)
 
 -- ---- the file
 
@@ -139,4 +122,4 @@ made_weights seed = weights_of 24 made_sizes (made_listed seed)
 
 pub demand-read : (seed : ℕ) → demand_of store_names made_sizes false (made_demand seed) ≡ Ok (made_weights seed)
 unfolding demand_of rows_of made_weights
-demand-read seed = rw (listed-read seed, all-balanced seed) refl
+demand-read seed = rw (listed-read seed, made-balanced seed) refl

@@ -5,9 +5,9 @@ use Rattle.std.proofs.lemmas.Fmt.{length-decimal-le_wide}
 use Rattle.std.proofs.lemmas.List.{length-map}
 use Rattle.clr_num.specs.Money.{padded}
 use Rattle.clr_stock.specs.Stock.{stock_columns}
-use Rattle.clr_demand.specs.Demand.{demand_columns}
+use Rattle.clr_demand.specs.Demand.{Listed, demand_columns}
 use Rattle.clr_make.specs.Made.{demand_rows, line, lines, made_demand, made_stock, made_units, stock_rows, store_fields, store_name}
-use Rattle.clr_make.proofs.DemandRows.{AreInOrder, Listed, fields_of, listed-fields, made-order, made_listed, order-length, place, place_of}
+use Rattle.clr_make.proofs.DemandRows.{AreInOrder, fields_of, listed-fields, made-order, made_listed, order-length, place, place_of}
 use Rattle.clr_make.proofs.RangeLemmas.{all-map}
 use Rattle.clr_make.proofs.StockReads.{stock-count, units-range}
 

@@ -4,12 +4,12 @@ use Rattle.std.specs.Prelude.{fold, sum}
 use Rattle.std.proofs.lemmas.List.{map-append}
 use Rattle.std.proofs.lemmas.List.Sums.{sum_by-append}
 use Rattle.clr_num.specs.Lists.{nth, numbers}
-use Rattle.clr_demand.specs.Demand.{key, listed_weight, sum_to, top_of, total, weight_of}
+use Rattle.clr_demand.specs.Demand.{Listed, key, listed_weight, top_of, total, weight_of}
 use Rattle.clr_demand.specs.Places.{AllWithin}
 use Rattle.clr_demand.specs.Weights.{weights_at}
-use Rattle.clr_demand.proofs.TotalLemmas.{listed-sum, sum_to-same}
+use Rattle.clr_demand.proofs.TotalLemmas.{listed-sum, sum_to, sum_to-same}
 use Rattle.clr_demand.proofs.WeightLemmas.{length-map-numbers, nth-map-numbers}
-use Rattle.clr_make.proofs.DemandRows.{AreInOrder, Listed, made-order, made_listed, place, place_of}
+use Rattle.clr_make.proofs.DemandRows.{AreInOrder, made-order, made_listed, place, place_of}
 use Rattle.clr_make.proofs.DemandTotals.{made-total, made_weights}
 use Rattle.clr_make.proofs.LineLemmas.{numbers-more}
 
