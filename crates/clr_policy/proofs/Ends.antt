@@ -1,13 +1,11 @@
 -- The values at the end of the season, store by store.
-use Rattle.std.proofs.Common.{◌≡◌, ℕ, zero, suc, ◌+◌, ◌-◌, ◌*◌, ◌^◌, ◌≤◌, ◌<◌, min, ℤ, pos, ◌+ℤ◌, ◌*ℤ◌, refl, sym, ap, ap₂, ◌∙◌, subst, arith, List, [], ◌∷◌, ◌++◌, length, map, get_or, drop, mul-le-mul, mul_assoc}
-use Rattle.std.specs.List.{flat_map}
+use Rattle.std.proofs.Common.{◌≡◌, ℕ, suc, ◌+◌, ◌*◌, ◌≤◌, ◌<◌, ℤ, pos, ◌+ℤ◌, ◌*ℤ◌, refl, sym, ap, ap₂, ◌∙◌, subst, arith, List, [], ◌∷◌, ◌++◌, length, get_or, mul-le-mul, mul_assoc}
 use Rattle.std.proofs.lemmas.List.{length-map, get_or-map}
-use Rattle.clr_num.specs.Lists.{numbers}
 use Rattle.clr_num.specs.Sums.{sum_of}
 use Rattle.clr_rules.proofs.GridLemmas.{flat_map-numbers_more, get_or-blocks, length-blocks, split_place}
 use Rattle.clr_average.specs.Average.{IsWithin}
 use Rattle.clr_average.proofs.Ring.{linear}
-use Rattle.clr_average.proofs.Within.{within_more, within_pos, within_sum}
+use Rattle.clr_average.proofs.Within.{within_pos, within_sum}
 use Rattle.clr_season.specs.Season.{Season, store_at}
 use Rattle.clr_model.specs.JointValue.{end_value}
 use Rattle.clr_model.specs.Revenue.{cent, full_stocks, salvage_cents}

@@ -1,15 +1,12 @@
 -- The demands of one store after another.
-use Rattle.std.proofs.Common.{◌≡◌, ℕ, zero, suc, ◌+◌, ◌-◌, ◌*◌, ◌^◌, ◌≤◌, ◌<◌, min, ℤ, pos, ◌+ℤ◌, ◌*ℤ◌, refl, sym, ap, ap₂, ◌∙◌, subst, arith, List, [], ◌∷◌, ◌++◌, length, map, get_or, drop, take, mul-le-mul, le_trans, pow-suc, ◌/◌, Bool, true, false}
+use Rattle.std.proofs.Common.{◌≡◌, ℕ, zero, suc, ◌+◌, ◌-◌, ◌*◌, ◌^◌, ◌≤◌, ◌<◌, ℤ, pos, ◌+ℤ◌, ◌*ℤ◌, refl, sym, ap, ap₂, ◌∙◌, subst, arith, List, [], ◌∷◌, ◌++◌, length, map, get_or, drop, take, mul-le-mul, le_trans, pow-suc, ◌/◌, Bool, true, false}
 use Rattle.std.specs.Prelude.{nat_lt}
 use Rattle.std.proofs.lemmas.List.{drop_more, get_or-append_right, get_or-drop, get_or-take, get_or_append_left, length-drop, length-map, length-take-le}
 use Rattle.std.proofs.Math.Nat.{mul-div_cancel_left, pow-le-pow_right}
 use native.Mathlib.Nat.{pow-zero}
-use Rattle.clr_num.specs.Lists.{numbers, nth}
-use Rattle.clr_num.specs.Sums.{sum_over}
 use Rattle.clr_rules.proofs.GridLemmas.{split_place}
 use Rattle.clr_average.specs.Average.{IsWithin}
 use Rattle.clr_average.proofs.Sums.{sum_over-same}
-use Rattle.clr_average.proofs.Within.{within_more}
 use Rattle.clr_stock.specs.Stock.{Store, no_store}
 use Rattle.clr_season.specs.Season.{Season, IsSeason, weight, demands, store_at}
 use Rattle.clr_model.specs.Revenue.{earn, left, full_stocks}

@@ -1,13 +1,10 @@
 -- The values of a policy's parts.
-use Rattle.std.proofs.Common.{◌≡◌, ℕ, zero, suc, ◌+◌, ◌-◌, ◌*◌, ◌≤◌, ◌<◌, min, ℤ, pos, ◌+ℤ◌, ◌*ℤ◌, refl, sym, ap, ap₂, ◌∙◌, subst, arith, List, [], ◌∷◌, ◌++◌, length, map, get_or, take, drop, mul-le-mul, append-nil, Bool, true, false}
-use Rattle.std.specs.Prelude.{nat_le, if◌then◌else◌}
-use Rattle.std.proofs.lemmas.List.{length-map}
+use Rattle.std.proofs.Common.{◌≡◌, ℕ, zero, suc, ◌+◌, ◌-◌, ◌*◌, ◌≤◌, ◌<◌, min, ℤ, ◌+ℤ◌, ◌*ℤ◌, sym, ap, ◌∙◌, arith, List, [], ◌∷◌, ◌++◌, length, map, get_or, take, drop, mul-le-mul}
 use Rattle.std.proofs.Math.Seq.{take-append_seam}
-use Rattle.clr_num.specs.Sums.{sum_over}
 use Rattle.clr_average.proofs.Sums.{sum_over-same}
 use Rattle.clr_stock.specs.Stock.{Store}
 use Rattle.clr_season.specs.Season.{Season, IsSeason}
-use Rattle.clr_model.specs.Policies.{Tree, joint_demands}
+use Rattle.clr_model.specs.Policies.{joint_demands}
 use Rattle.clr_model.specs.Revenue.{earn, full_stocks, left, of_store, stocks_left, sum_stores}
 use Rattle.clr_model.specs.Expected.{week_chance}
 use Rattle.clr_model.specs.JointWeek.{joint_base, joint_weighed}
@@ -16,7 +13,7 @@ use Rattle.clr_policy.specs.Judged.{most_policy_size, policy_size, stock_demands
 use Rattle.clr_policy.proofs.Enclosures.{no_weeks}
 use Rattle.clr_policy.specs.Unrolled.{tree_value, unroll}
 use Rattle.clr_model.specs.Stocks.{lists_of, place_in}
-use Rattle.clr_policy.specs.StockLists.{AllWithin, AreValues, AreWithin, at_place, most_gain, most_reach, most_total, reach_left}
+use Rattle.clr_policy.specs.StockLists.{AreValues, AreWithin, at_place, most_gain, most_reach, most_total, reach_left}
 use Rattle.std.proofs.lemmas.Int.{to_z-of_z}
 use mir.Syntax.{w128}
 use Rattle.clr_average.specs.Average.{IsWithin}

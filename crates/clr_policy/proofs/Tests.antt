@@ -1,14 +1,15 @@
 -- The stock of a store at a place, and the values of a test of it.
-use Rattle.std.proofs.Common.{◌≡◌, ℕ, zero, suc, ◌+◌, ◌-◌, ◌*◌, ◌/◌, ◌%◌, ◌≤◌, ◌<◌, min, ℤ, pos, refl, sym, ap, ap₂, ◌∙◌, subst, arith, List, [], ◌∷◌, length, map, get_or, drop, mul-le-mul, mul_assoc, Bool, true, false}
+use Rattle.std.proofs.Common.{◌≡◌, ℕ, zero, suc, ◌+◌, ◌-◌, ◌*◌, ◌/◌, ◌%◌, ◌≤◌, ◌<◌, ℤ, sym, ap, ap₂, ◌∙◌, subst, arith, List, [], ◌∷◌, length, get_or, drop, mul-le-mul, mul_assoc, Bool, true, false}
 use Rattle.std.specs.Prelude.{nat_le, if◌then◌else◌}
 use Rattle.std.proofs.lemmas.Nat.{div-mul-add, mod-mul-add}
 use Rattle.std.proofs.Math.Nat.{add-mul-div_right, mul-add-mod_self_right}
-use Rattle.std.proofs.lemmas.List.{drop_more, length-map}
+use Rattle.std.proofs.lemmas.List.{length-map}
 use Rattle.clr_average.specs.Average.{IsWithin}
 use Rattle.clr_season.specs.Season.{Season, store_at}
 use Rattle.clr_model.specs.Revenue.{full_stocks, of_store}
 use Rattle.clr_model.specs.Stocks.{lists_of, place_in}
-use Rattle.clr_policy.specs.StockLists.{AllWithin, AreWithin, at_place, chosen, stock_at, stocks_from}
+use Rattle.clr_policy.specs.Judged.{most_policy_size}
+use Rattle.clr_policy.specs.StockLists.{AreWithin, at_place, chosen, stock_at, stocks_from}
 use Rattle.clr_policy.proofs.Folds.{lists_first, map-get, place_low, size_splits}
 
 pub some_lists : (mosts : List ℕ) → 1 ≤ lists_of mosts
@@ -92,6 +93,14 @@ fewer_lists (most ∷ mosts) (suc n) =
     let whole : lists_of mosts ≤ lists_of mosts = omega arith in
     let all : 1 * lists_of mosts ≤ suc most * lists_of mosts = mul-le-mul row whole in
     omega (arith, rest, all)
+
+-- the lists of the stores from one on are no more than all
+pub last_lists_few : (season : Season) (i width stock : ℕ) → i < length season.stores → width ≡ lists_of (stocks_from season (suc i + 1)) → stock ≡ (store_at season (suc i)).units → lists_of (full_stocks season) ≤ most_policy_size →
+    width * (stock + 1) ≤ most_policy_size
+last_lists_few season i width stock lt width_is stock_is few =
+    let here : lists_of (stocks_from season (suc i)) ≡ ((store_at season (suc i)).units + 1) * lists_of (stocks_from season (suc i + 1)) = size_splits season (suc i) (omega arith) (omega (arith, lt)) in
+    let all : lists_of (stocks_from season (suc i)) ≤ lists_of (full_stocks season) = fewer_lists (full_stocks season) (suc i - 1) in
+    rw (width_is, stock_is) (omega (arith, here, all, few))
 
 pub width_more : (season : Season) (width store stock index : ℕ) → index < length season.stores → stock ≡ (store_at season (suc index)).units → width * lists_of (stocks_from season (index + 1)) ≡ lists_of (stocks_from season (store + 1)) →
     width * (stock + 1) * lists_of (stocks_from season (index + 1 + 1)) ≡ lists_of (stocks_from season (store + 1))

@@ -40,9 +40,11 @@ fn rows_at_end(
     requires stock { stock ≤ 2000 }
     requires unit { unit ≤ 10000000000000 }
     requires reach { AllWithin most_reach after.now }
+    requires size { length after.now * (stock + 1) ≤ most_policy_size }
     ensures { IfOk result (λ values. values.items ≡ rows_of unit after.now (stock + 1)) }
 {
-    let mut values = Vec::new(alloc);
+    let rows = stock as usize + 1;
+    let mut values = Vec::with_capacity(alloc, after.len() * rows)?;
     for units in 0..stock + 1 {
         push_row(&mut values, after, unit * u64::from(units))?;
     }
@@ -90,6 +92,7 @@ fn salvage_gain(season: &Season, store: u32) -> u64
 
 /// The values at the end of the season.
 fn end_values(alloc: Global, season: &Season) -> Result<Vec<i128>, AllocError>
+    requires lists { lists_of (full_stocks season.now) ≤ most_policy_size }
     ensures values { IfOk result (λ values. AreValues (full_stocks season.now) (end_value season.now) values.items) }
     ensures reach { IfOk result (λ values. AllWithin (reach_left 0) values.items) }
 {

@@ -1,9 +1,8 @@
-use Rattle.std.proofs.Common.{◌≡◌, ◌≤◌, ◌<◌, ◌+◌, ◌-◌, ◌*◌, ◌/◌, ◌^◌, suc, length, sym, ap, ap₂, ◌∙◌, subst, rules, arith, refl, ℕ, List}
+use Rattle.std.proofs.Common.{◌≡◌, ◌≤◌, ◌<◌, ◌+◌, ◌-◌, ◌*◌, ◌/◌, ◌^◌, length, sym, ap, ap₂, ◌∙◌, subst, rules, arith}
 use Rattle.clr_average.specs.Average.{IsWithin}
-use Rattle.clr_season.specs.Season.{store_at}
 use Rattle.clr_model.specs.Stocks.{lists_of}
 use Rattle.clr_policy.specs.StockLists.{AllWithin, most_gain, most_reach, most_total, reach_after, stocks_from}
-use Rattle.clr_policy.proofs.Folds.{base_most, first_folds, mid_length, mid_within, none_folds, none_reach, one_row_more, put_at, reach_fits, reach_more, row_inside, row_is, row_reach, rows_divide, rows_within, size_splits}
+use Rattle.clr_policy.proofs.Folds.{base_most, first_folds, mid_length, mid_within, one_row_more, put_at, reach_fits, reach_more, row_is, rows_divide, rows_within, size_splits}
 use Rattle.clr_policy.proofs.stock_lists.+stores.Goals as goal
 
 pub weigh_row-returns-clause-row : goal.weigh_row-returns-clause-row

@@ -1,10 +1,10 @@
-use Rattle.std.proofs.Common.{◌≡◌, ◌≤◌, ◌<◌, ◌+◌, ◌-◌, ◌*◌, suc, pos, sym, ap, ◌∙◌, subst, length, arith, rules, List, ℕ, mul-le-mul}
+use Rattle.std.proofs.Common.{◌≡◌, ◌≤◌, ◌<◌, ◌+◌, ◌*◌, sym, ap, ◌∙◌, subst, length, arith, mul-le-mul}
 use Rattle.clr_average.proofs.Within.{within_more}
 use Rattle.std.proofs.lemmas.List.{length-map}
-use Rattle.clr_model.specs.JointWeek.{joint_base, joint_weighed}
+use Rattle.clr_model.specs.JointWeek.{joint_weighed}
 use Rattle.clr_model.specs.Revenue.{full_stocks}
 use Rattle.clr_model.proofs.JointFold.{joint_sum_by_stores_lem}
-use Rattle.clr_model.specs.Stocks.{lists_of, place_in}
+use Rattle.clr_model.specs.Stocks.{place_in}
 use Rattle.clr_policy.specs.StockLists.{AllWithin, at_place, most_gain, reach_after}
 use Rattle.clr_policy.proofs.Folds.{place_low, within_length, whole_reach}
 use Rattle.clr_policy.proofs.values.weigh_week.Goals as goal

@@ -1,4 +1,4 @@
-use Rattle.std.proofs.Common.{◌≡◌, ◌≤◌, ◌<◌, ◌+◌, ◌-◌, ◌*◌, suc, length, rules, arith, subst, sym, ap, ◌∙◌, mul-le-mul}
+use Rattle.std.proofs.Common.{◌≡◌, ◌≤◌, ◌<◌, ◌+◌, ◌-◌, ◌*◌, suc, length, rules, arith, subst, mul-le-mul}
 use Rattle.clr_season.specs.Season.{store_at}
 use Rattle.clr_model.specs.Revenue.{full_stocks}
 use Rattle.clr_model.specs.Stocks.{lists_of}
