@@ -4,5 +4,6 @@ pub mod NumberTexts
 pub mod OpeningSums
 pub mod Sending
 pub mod StockLists
+pub mod Tabled
 pub mod Texts
 pub mod Walking

@@ -3,6 +3,7 @@ pub mod Lines
 pub mod Numbers
 pub mod Places
 pub mod Steps
+pub mod Tables
 pub mod Writing
 pub mod Reading
 pub mod Conditions

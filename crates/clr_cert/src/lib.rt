@@ -14,6 +14,7 @@ mod number;
 mod place;
 mod rows;
 mod stocks;
+mod table;
 mod totals;
 mod write;
 

@@ -3,6 +3,7 @@
 
 ghost use Rattle.clr_cert.specs.Entries.{AreInRange, IsJointCell, MayBeAsked};
 ghost use Rattle.clr_cert.specs.Lines.{joint_numbers, line_at, number_fields, numbers_at, opening, stocks_of, two_values};
+ghost use Rattle.clr_cert.specs.Tables.{IsRowAsked, entry_of};
 ghost use Rattle.clr_cert.specs.Places.{IsPlaceOf, IsWeekRung, IsWeekStore, store_numbers, week_numbers};
 ghost use Rattle.clr_model.specs.Fits.{fits};
 ghost use Rattle.clr_model.specs.Revenue.{full_stocks};
@@ -16,7 +17,8 @@ use crate::entries::Entries;
 use crate::line_buffer::LineBuffer;
 use crate::place::Place;
 use crate::stocks::list_of_stocks;
-use crate::totals::{high_total, low_total, value_total};
+use crate::table::Table;
+use crate::totals::opening_total;
 use clr_model::lists_of_stocks;
 use clr_rules::{Live, Summary};
 use clr_season::Season;
@@ -47,50 +49,24 @@ impl LineBuffer {
         }
     }
 
-    // Appends a path's values to a store, rounded down.
-    fn put_lows<E: Entries>(&mut self, season: &Season, entries: &E, done: u32, store: u32)
-        requires place { IsWeekStore season.now done store }
-        requires asked { MayBeAsked season.now (E.may_ask entries.now) }
-        requires room { length self.old ≤ 69000 }
-        ensures text { self.new ≡ self.old ++ number_fields (map ((E.entries entries.now).low done store) (stocks_of season.now store)) }
-        ensures size { length self.new ≤ length self.old + 82100 }
-    {
-        for stock in 0..season.stock(store) + 1 {
-            self.put_field(entries.low(done, store, stock));
-        }
-    }
-
-    // Appends a path's values to a store, rounded up.
-    fn put_highs<E: Entries>(&mut self, season: &Season, entries: &E, done: u32, store: u32)
-        requires place { IsWeekStore season.now done store }
-        requires asked { MayBeAsked season.now (E.may_ask entries.now) }
-        requires room { length self.old ≤ 69000 }
-        ensures text { self.new ≡ self.old ++ number_fields (map ((E.entries entries.now).high done store) (stocks_of season.now store)) }
-        ensures size { length self.new ≤ length self.old + 82100 }
-    {
-        for stock in 0..season.stock(store) + 1 {
-            self.put_field(entries.high(done, store, stock));
-        }
-    }
-
-    // Appends a store's values under the multipliers.
-    fn put_values<E: Entries>(
+    // Appends a table's entries of a store, by its stock.
+    fn put_entries<E: Entries>(
         &mut self,
         season: &Season,
         entries: &E,
+        table: Table,
         done: u32,
         store: u32,
-        s: Summary,
     )
         requires place { IsWeekStore season.now done store }
-        requires live { IsLiveSummary season.now.rules done s }
+        requires row { IsRowAsked season.now table done store }
         requires asked { MayBeAsked season.now (E.may_ask entries.now) }
         requires room { length self.old ≤ 69000 }
-        ensures text { self.new ≡ self.old ++ number_fields (map ((E.entries entries.now).value done store s) (stocks_of season.now store)) }
+        ensures text { self.new ≡ self.old ++ number_fields (map (entry_of table (E.entries entries.now) done store) (stocks_of season.now store)) }
         ensures size { length self.new ≤ length self.old + 82100 }
     {
         for stock in 0..season.stock(store) + 1 {
-            self.put_field(entries.value(done, store, s, stock));
+            self.put_field(table.entry(entries, done, store, stock));
         }
     }
 
@@ -146,19 +122,28 @@ impl LineBuffer {
         match place {
             Place::Path => self.put_rungs(season, entries),
             Place::Mult { week, rung } => self.put_mults(season, entries, week, rung),
-            Place::Low { done, store } => self.put_lows(season, entries, done, store),
-            Place::High { done, store } => self.put_highs(season, entries, done, store),
-            Place::Value { done, store, s } => self.put_values(season, entries, done, store, s),
+            Place::Low { done, store } => {
+                self.put_entries(season, entries, Table::Low, done, store);
+            }
+            Place::High { done, store } => {
+                self.put_entries(season, entries, Table::High, done, store);
+            }
+            Place::Value { done, store, s } => {
+                self.put_entries(season, entries, Table::Value(s), done, store);
+            }
             Place::Joint { done, s, index } => {
                 let stocks = list_of_stocks(season, index);
                 let held = &stocks[..season.stores() as usize];
                 self.put_joint(season, entries, done, s, held);
             }
             Place::Revenue => {
-                self.put_field(low_total(season, entries));
-                self.put_field(high_total(season, entries));
+                self.put_field(opening_total(season, entries, Table::Low));
+                self.put_field(opening_total(season, entries, Table::High));
             }
-            Place::Bound => self.put_field(value_total(season, entries)),
+            Place::Bound => {
+                let values = Table::Value(season.rules().start());
+                self.put_field(opening_total(season, entries, values));
+            }
             Place::Exact => self.put_exact(season, entries),
             Place::Head | Place::Lengths | Place::End => {}
         }

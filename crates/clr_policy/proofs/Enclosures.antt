@@ -1,6 +1,6 @@
 -- The tree of a policy abides, and its values enclose what it earns.
-use Rattle.std.proofs.Common.{◌≡◌, ℕ, zero, suc, ◌+◌, ◌≤◌, ℤ, pos, ◌+ℤ◌, ◌*ℤ◌, ◌≤ℤ◌, refl, sym, ap, ◌∙◌, subst, subst₂, arith, List, [], ◌∷◌, ◌++◌, map, length, Bool, true, false, IsTrue, Option, Some, None, eq-eqb}
-use Rattle.std.specs.Prelude.{nat_le, ◌&&◌, ◌==◌, if◌then◌else◌, ⊤}
+use Rattle.std.proofs.Common.{◌≡◌, ℕ, suc, ◌+◌, ◌≤◌, ℤ, pos, ◌+ℤ◌, ◌*ℤ◌, ◌≤ℤ◌, refl, sym, subst, subst₂, arith, List, [], ◌∷◌, ◌++◌, map, length, Bool, true, false, IsTrue, Option, Some, None, eq-eqb}
+use Rattle.std.specs.Prelude.{nat_le, if◌then◌else◌}
 use Rattle.std.specs.Option.{option_map_or}
 use Rattle.std.proofs.Math.Nat.{one-le-pow}
 use Rattle.std.specs.List.{AllByRecursion, flat_map}
@@ -8,24 +8,23 @@ use Rattle.clr_num.specs.Direction.{IsDirection, AtLeast, AtMost}
 use Rattle.clr_num.specs.DirectionLaws.{floor_is_direction, ceil_is_direction}
 use Rattle.clr_num.specs.Lists.{all_lists}
 use Rattle.clr_num.specs.Rounding.{floor, ceil}
-use Rattle.clr_rules.specs.Rules.{obeys, keeps_rules, are_rungs}
+use Rattle.clr_rules.specs.Rules.{obeys, are_rungs}
 use Rattle.clr_rules.specs.declared.season_rules.Rule.{Rule}
 use Rattle.clr_season.specs.Season.{Season, IsSeason}
-use Rattle.clr_model.specs.Policies.{Tree, stop, node, branch, joint_demands, outcomes, IsWhole, Abides}
+use Rattle.clr_model.specs.Policies.{Tree, stop, node, branch, joint_demands, outcomes, IsWhole}
 use Rattle.clr_model.specs.Revenue.{cent, earn, sum_stores, of_store, full_stocks, stocks_left}
-use Rattle.clr_model.specs.Expected.{week_chance, den, earned, Encloses}
+use Rattle.clr_model.specs.Expected.{week_chance, den, earned}
 use Rattle.clr_model.specs.JointWeek.{joint_weighed, joint_base}
 use Rattle.clr_average.proofs.Ring.{linear}
 use Rattle.clr_model.proofs.Sums.{All-every, All-imply, All-map}
 use Rattle.clr_model.proofs.Weeks.{week_mass}
 use Rattle.clr_model.proofs.Steps.{joint_step, week_chance-pos}
 use Rattle.clr_model.proofs.PathBounds.{earned-stop, over_none, apart, weights_apart}
-use Rattle.clr_policy.specs.Written.{Written, finish, choose, ask, branches, IsPolicyFor, IsPolicy}
+use Rattle.clr_policy.specs.Written.{Written, finish, choose, ask, branches, IsPolicyFor}
 use Rattle.clr_policy.specs.Breaches.{breach, first_breach}
 use Rattle.clr_policy.specs.PolicyFile.{branch_after}
-use Rattle.clr_policy.specs.Unrolled.{unroll, policy_tree, tree_value, policy_value, IsValued}
+use Rattle.clr_policy.specs.Unrolled.{unroll, tree_value}
 use Rattle.clr_policy.specs.Judged.{PoliciesValued}
-use Rattle.clr_policy.specs.declared.branches.Breach.{Breach}
 use Rattle.clr_policy.proofs.Parts.{All-join, All-mapped, week_left, both_left}
 use Rattle.clr_policy.proofs.Walks.{no_breach-keeps}
 

@@ -1,17 +1,16 @@
 -- The values at the end of the season, store by store.
-use Rattle.std.proofs.Common.{◌≡◌, ℕ, zero, suc, ◌+◌, ◌-◌, ◌*◌, ◌^◌, ◌≤◌, ◌<◌, min, ℤ, pos, ◌+ℤ◌, ◌*ℤ◌, refl, sym, ap, ap₂, ◌∙◌, subst, arith, List, [], ◌∷◌, ◌++◌, length, map, get_or, drop, mul-le-mul, mul_assoc}
-use Rattle.std.specs.List.{flat_map}
+use Rattle.std.proofs.Common.{◌≡◌, ℕ, suc, ◌+◌, ◌*◌, ◌≤◌, ◌<◌, ℤ, pos, ◌+ℤ◌, ◌*ℤ◌, refl, sym, ap, ap₂, ◌∙◌, subst, arith, List, [], ◌∷◌, ◌++◌, length, get_or, mul-le-mul, mul_assoc}
 use Rattle.std.proofs.lemmas.List.{length-map, get_or-map}
-use Rattle.clr_num.specs.Lists.{numbers}
 use Rattle.clr_num.specs.Sums.{sum_of}
 use Rattle.clr_rules.proofs.GridLemmas.{flat_map-numbers_more, get_or-blocks, length-blocks, split_place}
 use Rattle.clr_average.specs.Average.{IsWithin}
 use Rattle.clr_average.proofs.Ring.{linear}
-use Rattle.clr_average.proofs.Within.{within_more, within_pos, within_sum}
+use Rattle.clr_average.proofs.Within.{within_pos, within_sum}
 use Rattle.clr_season.specs.Season.{Season, store_at}
 use Rattle.clr_model.specs.JointValue.{end_value}
 use Rattle.clr_model.specs.Revenue.{cent, full_stocks, salvage_cents}
-use Rattle.clr_policy.specs.StockLists.{AllWithin, AreValues, AreWithin, at_place, ends_from, list_count, most_gain, place_of, rows_of, stocks_from, with_more}
+use Rattle.clr_model.specs.Stocks.{lists_of, place_in}
+use Rattle.clr_policy.specs.StockLists.{AllWithin, AreValues, AreWithin, at_place, ends_from, most_gain, rows_of, stocks_from, with_more}
 use Rattle.clr_policy.proofs.Folds.{place_low, size_splits, stocks_first, stocks_none, within_length}
 
 pub rows_more : (unit rows : ℕ) (after : List ℤ) → rows_of unit after (rows + 1) ≡ rows_of unit after rows ++ with_more after (pos (unit * rows))
@@ -46,7 +45,7 @@ one_store_more season i unit stock after values lt unit_is stock_is is are = rec
       ∙ (length-blocks (λ x. with_more after (pos (unit * x))) (length after) (row_wide unit after) 0 (stock + 1)
       ∙ (ap₂ (λ n w. (n + 1) * w) stock_is are.size ∙ sym (size_splits season (suc i) (omega arith) (omega (arith, lt)))));
   each = λ stocks held.
-      subst (λ mosts. AreWithin mosts stocks → at_place values (place_of mosts stocks) ≡ ends_from season (suc i) stocks) (sym (stocks_first season i lt)) (by_stocks stocks)
+      subst (λ mosts. AreWithin mosts stocks → at_place values (place_in mosts stocks) ≡ ends_from season (suc i) stocks) (sym (stocks_first season i lt)) (by_stocks stocks)
       (subst (λ mosts. AreWithin mosts stocks) (refl_at (stocks_from season (suc i))) held);
 }
   where
@@ -54,14 +53,14 @@ one_store_more season i unit stock after values lt unit_is stock_is is are = rec
     refl_at xs = refl
 
     by_stocks : (stocks : List ℕ) → AreWithin ((store_at season (suc i)).units ∷ stocks_from season (suc i + 1)) stocks →
-        at_place values (place_of ((store_at season (suc i)).units ∷ stocks_from season (suc i + 1)) stocks) ≡ ends_from season (suc i) stocks
+        at_place values (place_in ((store_at season (suc i)).units ∷ stocks_from season (suc i + 1)) stocks) ≡ ends_from season (suc i) stocks
     by_stocks [] h = absurd h
     by_stocks (x ∷ rest) h =
-        let place : ℕ = place_of (stocks_from season (suc i + 1)) rest in
+        let place : ℕ = place_in (stocks_from season (suc i + 1)) rest in
         let low : place < length after = subst (λ n. place < n) (sym are.size) (place_low (stocks_from season (suc i + 1)) rest h.1) in
         let next : suc i + 1 ≡ suc (suc i) = omega arith in
         let worth : pos (unit * x) ≡ pos cent *ℤ salvage_cents season (suc i) x = ap (λ u. pos (u * x)) unit_is ∙ ap pos (mul_assoc cent (store_at season (suc i)).salvage x) in
-        ap (λ list. at_place list (x * list_count (stocks_from season (suc i + 1)) + place)) is
+        ap (λ list. at_place list (x * lists_of (stocks_from season (suc i + 1)) + place)) is
         ∙ (ap (λ w. at_place (rows_of unit after (stock + 1)) (x * w + place)) (sym are.size)
         ∙ (row_at unit (stock + 1) x place after (let top = h.0 in omega (arith, top, stock_is)) low
         ∙ (ap₂ ◌+ℤ◌ (are.each rest h.1 ∙ ap (λ n. ends_from season n rest) next) worth ∙ turn (ends_from season (suc (suc i)) rest) (pos cent *ℤ salvage_cents season (suc i) x))))

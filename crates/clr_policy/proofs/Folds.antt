@@ -1,21 +1,19 @@
 -- The demands of one store after another.
-use Rattle.std.proofs.Common.{◌≡◌, ℕ, zero, suc, ◌+◌, ◌-◌, ◌*◌, ◌^◌, ◌≤◌, ◌<◌, min, ℤ, pos, ◌+ℤ◌, ◌*ℤ◌, refl, sym, ap, ap₂, ◌∙◌, subst, arith, List, [], ◌∷◌, ◌++◌, length, map, get_or, drop, take, mul-le-mul, le_trans, pow-suc, ◌/◌, Bool, true, false}
+use Rattle.std.proofs.Common.{◌≡◌, ℕ, zero, suc, ◌+◌, ◌-◌, ◌*◌, ◌^◌, ◌≤◌, ◌<◌, ℤ, pos, ◌+ℤ◌, ◌*ℤ◌, refl, sym, ap, ap₂, ◌∙◌, subst, arith, List, [], ◌∷◌, ◌++◌, length, map, get_or, drop, take, mul-le-mul, le_trans, pow-suc, ◌/◌, Bool, true, false}
 use Rattle.std.specs.Prelude.{nat_lt}
 use Rattle.std.proofs.lemmas.List.{drop_more, get_or-append_right, get_or-drop, get_or-take, get_or_append_left, length-drop, length-map, length-take-le}
 use Rattle.std.proofs.Math.Nat.{mul-div_cancel_left, pow-le-pow_right}
 use native.Mathlib.Nat.{pow-zero}
-use Rattle.clr_num.specs.Lists.{numbers, nth}
-use Rattle.clr_num.specs.Sums.{sum_over}
 use Rattle.clr_rules.proofs.GridLemmas.{split_place}
 use Rattle.clr_average.specs.Average.{IsWithin}
 use Rattle.clr_average.proofs.Sums.{sum_over-same}
-use Rattle.clr_average.proofs.Within.{within_more}
 use Rattle.clr_stock.specs.Stock.{Store, no_store}
 use Rattle.clr_season.specs.Season.{Season, IsSeason, weight, demands, store_at}
 use Rattle.clr_model.specs.Revenue.{earn, left, full_stocks}
 use Rattle.clr_model.specs.JointFold.{fold_stores}
 use Rattle.clr_model.specs.JointWeek.{joint_base}
-use Rattle.clr_policy.specs.StockLists.{AllWithin, AreWithin, RowWithin, at_place, folded, list_count, most_gain, most_reach, most_total, place_of, reach_after, row_folded, store_sum, stocks_from}
+use Rattle.clr_model.specs.Stocks.{lists_of, place_in}
+use Rattle.clr_policy.specs.StockLists.{AllWithin, AreWithin, RowWithin, at_place, folded, most_gain, most_reach, most_total, reach_after, row_folded, store_sum, stocks_from}
 use Rattle.clr_policy.specs.declared.stock_lists.Week.{Week}
 
 -- ---- the stores from one on
@@ -70,20 +68,23 @@ within_length (most ∷ mosts) (stock ∷ stocks) h = ap suc (within_length most
 pub record AreFolded (season : Season) (week : Week) (store width stock : ℕ) (before now : List ℤ) : Type 0 where
   pub size : length now ≡ length before
   pub each : (x : ℕ) (rest : List ℕ) → x < stock → AreWithin (stocks_from season (store + 1)) rest →
-      at_place now (x * width + place_of (stocks_from season (store + 1)) rest) ≡ row_folded season week.done week.before week.rung store width before x rest
+      at_place now (x * width + place_in (stocks_from season (store + 1)) rest) ≡ row_folded season week.done week.before week.rung store width before x rest
   pub within : (reach : ℕ) → reach ≤ most_reach → AllWithin reach before → (x : ℕ) → x < stock → RowWithin (reach_after season (store + 1) reach) width x now
   pub later : (k : ℕ) → stock * width ≤ k → at_place now k ≡ at_place before k
 
 -- ---- places
 
-pub place_low : (mosts stocks : List ℕ) → AreWithin mosts stocks → place_of mosts stocks < list_count mosts
+pub lists_first : (most : ℕ) (mosts : List ℕ) → lists_of (most ∷ mosts) ≡ (most + 1) * lists_of mosts
+lists_first most mosts = omega arith
+
+pub place_low : (mosts stocks : List ℕ) → AreWithin mosts stocks → place_in mosts stocks < lists_of mosts
 place_low [] [] h = omega arith
 place_low [] (stock ∷ stocks) h = absurd h
 place_low (most ∷ mosts) [] h = absurd h
 place_low (most ∷ mosts) (stock ∷ stocks) h =
     let rest = place_low mosts stocks h.1 in
-    let row : (stock + 1) * list_count mosts ≤ (most + 1) * list_count mosts = mul-le-mul (omega (arith, h.0)) (omega arith) in
-    let split : (stock + 1) * list_count mosts ≡ stock * list_count mosts + list_count mosts = omega arith in
+    let row : (stock + 1) * lists_of mosts ≤ suc most * lists_of mosts = mul-le-mul (omega (arith, h.0)) (omega arith) in
+    let split : (stock + 1) * lists_of mosts ≡ stock * lists_of mosts + lists_of mosts = omega arith in
     omega (arith, rest, row, split)
 
 -- the sum over the stores' demands looks at lists of stocks alone
@@ -108,16 +109,16 @@ put_at values part more from place inside lt =
     get_or-append_right (take from values) (part ++ more) from (from + place) (pos 0) size (omega arith)
     ∙ (ap (λ k. get_or (part ++ more) k (pos 0)) back ∙ get_or_append_left part more (pos 0) place lt)
 
-pub row_is : (season : Season) (done before rung store width stock : ℕ) (values part more : List ℤ) (rest : List ℕ) → width ≡ list_count (stocks_from season (store + 1)) → stock * width + width ≤ length values → length part ≡ width →
+pub row_is : (season : Season) (done before rung store width stock : ℕ) (values part more : List ℤ) (rest : List ℕ) → width ≡ lists_of (stocks_from season (store + 1)) → stock * width + width ≤ length values → length part ≡ width →
     AreWithin (stocks_from season (store + 1)) rest →
-    at_place part (place_of (stocks_from season (store + 1)) rest) ≡ folded season done before rung (store + 1) (take (stock * width + width - stock * width) (drop (stock * width) values)) rest →
-    at_place (take (stock * width) values ++ (part ++ more)) (stock * width + place_of (stocks_from season (store + 1)) rest) ≡ row_folded season done before rung store width values stock rest
+    at_place part (place_in (stocks_from season (store + 1)) rest) ≡ folded season done before rung (store + 1) (take (stock * width + width - stock * width) (drop (stock * width) values)) rest →
+    at_place (take (stock * width) values ++ (part ++ more)) (stock * width + place_in (stocks_from season (store + 1)) rest) ≡ row_folded season done before rung store width values stock rest
 row_is season done before rung store width stock values part more rest width_is inside size held is =
-    let low : place_of (stocks_from season (store + 1)) rest < length part = subst (λ n. place_of (stocks_from season (store + 1)) rest < n) (sym (size ∙ width_is)) (place_low (stocks_from season (store + 1)) rest held) in
-    put_at values part more (stock * width) (place_of (stocks_from season (store + 1)) rest) (omega (arith, inside)) low
+    let low : place_in (stocks_from season (store + 1)) rest < length part = subst (λ n. place_in (stocks_from season (store + 1)) rest < n) (sym (size ∙ width_is)) (place_low (stocks_from season (store + 1)) rest held) in
+    put_at values part more (stock * width) (place_in (stocks_from season (store + 1)) rest) (omega (arith, inside)) low
     ∙ (is
-    ∙ fold_same season done before rung (store + 1) (stocks_from season (store + 1)) rest _ (λ more. at_place values (stock * width + place_of (stocks_from season (store + 1)) more))
-    (λ more within. mid_at values (stock * width) width (place_of (stocks_from season (store + 1)) more) (subst (λ n. place_of (stocks_from season (store + 1)) more < n) (sym width_is) (place_low (stocks_from season (store + 1)) more within))) held)
+    ∙ fold_same season done before rung (store + 1) (stocks_from season (store + 1)) rest _ (λ more. at_place values (stock * width + place_in (stocks_from season (store + 1)) more))
+    (λ more within. mid_at values (stock * width) width (place_in (stocks_from season (store + 1)) more) (subst (λ n. place_in (stocks_from season (store + 1)) more < n) (sym width_is) (place_low (stocks_from season (store + 1)) more within))) held)
 
 pub mid_length : (width stock : ℕ) (values : List ℤ) → stock * width + width ≤ length values → length (take (stock * width + width - stock * width) (drop (stock * width) values)) ≡ width
 mid_length width stock values inside = length-take-le (stock * width + width - stock * width) (drop (stock * width) values) (short inside) ∙ cut
@@ -135,7 +136,7 @@ mid_within reach width stock values inside all k lt =
 
 -- ---- one row more
 
-module _ (season : Season) (week : Week) (store width stock rows : ℕ) (before now new : List ℤ) (way : AreFolded season week store width stock before now) (width_is : width ≡ list_count (stocks_from season (store + 1))) (size : length before ≡ rows * width) (inside : stock < rows) where
+module _ (season : Season) (week : Week) (store width stock rows : ℕ) (before now new : List ℤ) (way : AreFolded season week store width stock before now) (width_is : width ≡ lists_of (stocks_from season (store + 1))) (size : length before ≡ rows * width) (inside : stock < rows) where
   mosts : List ℕ
   mosts = stocks_from season (store + 1)
 
@@ -149,7 +150,7 @@ module _ (season : Season) (week : Week) (store width stock rows : ℕ) (before 
   row_reach reach all place lt = subst (IsWithin reach) (sym (way.later (stock * width + place) (omega arith))) (all (stock * width + place) (let f = fits in omega (arith, f, lt)))
 
   pub one_row_more : length new ≡ length now →
-      ((rest : List ℕ) → AreWithin (stocks_from season (store + 1)) rest → at_place new (stock * width + place_of (stocks_from season (store + 1)) rest) ≡ row_folded season week.done week.before week.rung store width now stock rest) →
+      ((rest : List ℕ) → AreWithin (stocks_from season (store + 1)) rest → at_place new (stock * width + place_in (stocks_from season (store + 1)) rest) ≡ row_folded season week.done week.before week.rung store width now stock rest) →
       ((reach : ℕ) → reach ≤ most_reach → RowWithin reach width stock now → RowWithin (reach_after season (store + 1) reach) width stock new) →
       ((k : ℕ) → k < stock * width → at_place new k ≡ at_place now k) → ((k : ℕ) → stock * width + width ≤ k → at_place new k ≡ at_place now k) → AreFolded season week store width (stock + 1) before new
   one_row_more same row within low high = record {
@@ -169,15 +170,15 @@ module _ (season : Season) (week : Week) (store width stock rows : ℕ) (before 
           omega (arith, most, more, p_lt)
 
       by_row : (x : ℕ) (rest : List ℕ) (b : Bool) → nat_lt x stock ≡ b → x < stock + 1 → AreWithin (stocks_from season (store + 1)) rest →
-          at_place new (x * width + place_of (stocks_from season (store + 1)) rest) ≡ row_folded season week.done week.before week.rung store width before x rest
+          at_place new (x * width + place_in (stocks_from season (store + 1)) rest) ≡ row_folded season week.done week.before week.rung store width before x rest
       by_row x rest true is lt held =
           let x_lt : x < stock = grind (arith, is) in
-          low (x * width + place_of (stocks_from season (store + 1)) rest) (earlier x _ x_lt (subst (λ n. place_of (stocks_from season (store + 1)) rest < n) (sym width_is) (place_low _ rest held))) ∙ way.each x rest x_lt held
+          low (x * width + place_in (stocks_from season (store + 1)) rest) (earlier x _ x_lt (subst (λ n. place_in (stocks_from season (store + 1)) rest < n) (sym width_is) (place_low _ rest held))) ∙ way.each x rest x_lt held
       by_row x rest false is lt held =
           let here : stock ≡ x = grind (arith, is, lt) in
-          subst (λ y. at_place new (y * width + place_of (stocks_from season (store + 1)) rest) ≡ row_folded season week.done week.before week.rung store width before y rest) here
+          subst (λ y. at_place new (y * width + place_in (stocks_from season (store + 1)) rest) ≡ row_folded season week.done week.before week.rung store width before y rest) here
           (row rest held
-          ∙ fold_same season week.done week.before week.rung (store + 1) (stocks_from season (store + 1)) rest _ _ (λ more held_more. way.later (stock * width + place_of (stocks_from season (store + 1)) more) (omega arith)) held)
+          ∙ fold_same season week.done week.before week.rung (store + 1) (stocks_from season (store + 1)) rest _ _ (λ more held_more. way.later (stock * width + place_in (stocks_from season (store + 1)) more) (omega arith)) held)
 
       by_reach : (reach : ℕ) → reach ≤ most_reach → AllWithin reach before → (x : ℕ) (b : Bool) → nat_lt x stock ≡ b → x < stock + 1 → RowWithin (reach_after season (store + 1) reach) width x new
       by_reach reach le all x true is lt =
@@ -228,17 +229,17 @@ reach_fits season store reach ok first small le =
 
 -- the stock of a store and those after it
 pub first_folds : (season : Season) (week : Week) (store width scale : ℕ) (before now new : List ℤ) (stocks : List ℕ) → 1 ≤ store → store ≤ length season.stores →
-    width ≡ list_count (stocks_from season (store + 1)) → scale ≡ season.base ^ (length season.stores - store) →
+    width ≡ lists_of (stocks_from season (store + 1)) → scale ≡ season.base ^ (length season.stores - store) →
     ((x : ℕ) (rest : List ℕ) → x < (store_at season store).units + 1 → AreWithin (stocks_from season (store + 1)) rest →
-    at_place now (x * width + place_of (stocks_from season (store + 1)) rest) ≡ row_folded season week.done week.before week.rung store width before x rest) →
+    at_place now (x * width + place_in (stocks_from season (store + 1)) rest) ≡ row_folded season week.done week.before week.rung store width before x rest) →
     ((x p : ℕ) → x ≤ (store_at season store).units → p < width → at_place new (x * width + p) ≡ store_sum season week.done week.before week.rung store scale now width x p) →
-    AreWithin (stocks_from season store) stocks → at_place new (place_of (stocks_from season store) stocks) ≡ folded season week.done week.before week.rung store before stocks
+    AreWithin (stocks_from season store) stocks → at_place new (place_in (stocks_from season store) stocks) ≡ folded season week.done week.before week.rung store before stocks
 first_folds season week zero width scale before now new stocks low high width_is scale_is rows sums held = absurd (none low)
   where
     none : 1 ≤ 0 → ⊥
     none p = omega arith
 first_folds season week (suc i) width scale before now new stocks low high width_is scale_is rows sums held =
-    subst (λ mosts. AreWithin mosts stocks → at_place new (place_of mosts stocks) ≡ fold_stores season week.done week.before week.rung (suc i) stocks (λ rest. at_place before (place_of mosts rest)))
+    subst (λ mosts. AreWithin mosts stocks → at_place new (place_in mosts stocks) ≡ fold_stores season week.done week.before week.rung (suc i) stocks (λ rest. at_place before (place_in mosts rest)))
     (sym (stocks_first season i (omega (arith, high)))) (by_stocks stocks) held
   where
     units : ℕ
@@ -248,11 +249,11 @@ first_folds season week (suc i) width scale before now new stocks low high width
     after = stocks_from season (suc i + 1)
 
     by_stocks : (stocks : List ℕ) → AreWithin ((store_at season (suc i)).units ∷ stocks_from season (suc i + 1)) stocks →
-        at_place new (place_of ((store_at season (suc i)).units ∷ stocks_from season (suc i + 1)) stocks)
-        ≡ fold_stores season week.done week.before week.rung (suc i) stocks (λ rest. at_place before (place_of ((store_at season (suc i)).units ∷ stocks_from season (suc i + 1)) rest))
+        at_place new (place_in ((store_at season (suc i)).units ∷ stocks_from season (suc i + 1)) stocks)
+        ≡ fold_stores season week.done week.before week.rung (suc i) stocks (λ rest. at_place before (place_in ((store_at season (suc i)).units ∷ stocks_from season (suc i + 1)) rest))
     by_stocks [] h = absurd h
     by_stocks (x ∷ rest) h =
-        let place : ℕ = place_of (stocks_from season (suc i + 1)) rest in
+        let place : ℕ = place_in (stocks_from season (suc i + 1)) rest in
         let low : place < width = subst (λ n. place < n) (sym width_is) (place_low (stocks_from season (suc i + 1)) rest h.1) in
         let next : suc i + 1 ≡ suc (suc i) = omega arith in
         let scaled : scale ≡ season.base ^ length rest = scale_is ∙ ap (λ n. season.base ^ n) (sym (within_length (stocks_from season (suc i + 1)) rest h.1 ∙ stocks_length season (suc i) (omega arith))) in
@@ -260,14 +261,14 @@ first_folds season week (suc i) width scale before now new stocks low high width
         ∙ (sums x place h.0 low
         ∙ sum_over-same (demands season) _ _ (λ demand. ap₂ (λ value s. pos (weight season (suc i) (suc week.done) week.rung demand) *ℤ (value +ℤ earn season (suc i) week.before week.rung x demand *ℤ pos s))
         (rows (left x demand) rest (omega (arith, h.0)) h.1
-        ∙ (ap (λ n. fold_stores season week.done week.before week.rung n rest (λ more. at_place before (left x demand * width + place_of (stocks_from season (suc i + 1)) more))) next
-        ∙ ap (λ w. fold_stores season week.done week.before week.rung (suc (suc i)) rest (λ more. at_place before (left x demand * w + place_of (stocks_from season (suc i + 1)) more))) width_is))
+        ∙ (ap (λ n. fold_stores season week.done week.before week.rung n rest (λ more. at_place before (left x demand * width + place_in (stocks_from season (suc i + 1)) more))) next
+        ∙ ap (λ w. fold_stores season week.done week.before week.rung (suc (suc i)) rest (λ more. at_place before (left x demand * w + place_in (stocks_from season (suc i + 1)) more))) width_is))
         scaled))
 
 pub none_folds : (season : Season) (week : Week) (store : ℕ) (values : List ℤ) (stocks : List ℕ) → length season.stores < store → AreWithin (stocks_from season store) stocks →
-    at_place values (place_of (stocks_from season store) stocks) ≡ folded season week.done week.before week.rung store values stocks
+    at_place values (place_in (stocks_from season store) stocks) ≡ folded season week.done week.before week.rung store values stocks
 none_folds season week store values stocks last held =
-    subst (λ mosts. AreWithin mosts stocks → at_place values (place_of mosts stocks) ≡ fold_stores season week.done week.before week.rung store stocks (λ rest. at_place values (place_of mosts rest)))
+    subst (λ mosts. AreWithin mosts stocks → at_place values (place_in mosts stocks) ≡ fold_stores season week.done week.before week.rung store stocks (λ rest. at_place values (place_in mosts rest)))
     (sym (stocks_none season store last)) (by_stocks stocks) held
   where
     by_stocks : (stocks : List ℕ) → AreWithin [] stocks → at_place values 0 ≡ fold_stores season week.done week.before week.rung store stocks (λ rest. at_place values 0)
@@ -279,12 +280,13 @@ none_reach season store reach last le =
     let none : length season.stores + 1 - store ≡ 0 = omega (arith, last) in
     rw (none, pow-zero season.base) (omega arith)
 
-pub size_splits : (season : Season) (store : ℕ) → 1 ≤ store → store ≤ length season.stores → list_count (stocks_from season store) ≡ ((store_at season store).units + 1) * list_count (stocks_from season (store + 1))
+pub size_splits : (season : Season) (store : ℕ) → 1 ≤ store → store ≤ length season.stores → lists_of (stocks_from season store) ≡ ((store_at season store).units + 1) * lists_of (stocks_from season (store + 1))
 size_splits season zero low high = absurd (none low)
   where
     none : 1 ≤ 0 → ⊥
     none p = omega arith
-size_splits season (suc i) low high = ap list_count (stocks_first season i (omega (arith, high)))
+size_splits season (suc i) low high =
+    ap lists_of (stocks_first season i (omega (arith, high))) ∙ lists_first (store_at season (suc i)).units (stocks_from season (suc i + 1))
 
 pub whole_reach : (season : Season) (reach : ℕ) → reach_after season 1 reach ≡ joint_base season * (reach + length season.stores * most_gain)
 whole_reach season reach = let all : length season.stores + 1 - 1 ≡ length season.stores = omega arith in rw all refl

@@ -1,17 +1,16 @@
 -- What the places of a policy file give, by the kind of value that stands there.
-use Rattle.std.proofs.Common.{◌≡◌, List, ℕ, zero, suc, ◌+◌, ◌-◌, ◌*◌, ◌<◌, ◌≤◌, min, length, refl, sym, ap, subst, ◌∙◌, arith, Bool, true, false, Option, Some, None, Result, Ok, Err, Ordering, Less, Equal, Greater, codes}
+use Rattle.std.proofs.Common.{◌≡◌, List, ℕ, zero, suc, ◌+◌, ◌-◌, ◌*◌, ◌<◌, ◌≤◌, length, refl, sym, ap, subst, ◌∙◌, arith, true, false, Option, Some, Ok, Err, Ordering, Less, Equal, Greater, codes}
 use Rattle.std.specs.Option.{is_some}
 use Rattle.std.specs.Ordering.{nat_cmp, match_ordering}
 use Rattle.std.specs.Cmp.Lexicographic.{slice_cmp}
-use mathlib.Core.Path.{fun_ext}
 use Rattle.serde_json.specs.Data.{Data, null, boolean, number, string, array, object, Members, no_members, member, depth, members_depth}
 use Rattle.serde_json.specs.Find.{as_null, as_object, get, get_member}
 use Rattle.clr_season.specs.Season.{Season}
 use Rattle.clr_policy.specs.declared.policy.Policy.{Policy}
 use Rattle.clr_policy.specs.declared.policy.PolicyError.{PolicyError}
 use Rattle.clr_policy.specs.declared.policy.PolicyError.TheVariants.{Json, Shape, Unknown, Memory}
-use Rattle.clr_policy.specs.Written.{Written, finish, choose, ask, branches, written}
-use Rattle.clr_policy.specs.PolicyFile.{Fault, no_shape, branch_after, Gives, Place, end_place, has, place, field_place, field_in, field_at, rung_node, test_node, test_in}
+use Rattle.clr_policy.specs.Written.{Written, ask, branches, written}
+use Rattle.clr_policy.specs.PolicyFile.{no_shape, branch_after, Gives, Place, end_place, has, place, field_place, field_in, field_at, rung_node, test_node, test_in}
 
 -- ---- the field of a name
 

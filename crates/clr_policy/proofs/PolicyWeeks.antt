@@ -1,13 +1,10 @@
 -- The values of a policy's parts.
-use Rattle.std.proofs.Common.{◌≡◌, ℕ, zero, suc, ◌+◌, ◌-◌, ◌*◌, ◌≤◌, ◌<◌, min, ℤ, pos, ◌+ℤ◌, ◌*ℤ◌, refl, sym, ap, ap₂, ◌∙◌, subst, arith, List, [], ◌∷◌, ◌++◌, length, map, get_or, take, drop, mul-le-mul, append-nil, Bool, true, false}
-use Rattle.std.specs.Prelude.{nat_le, if◌then◌else◌}
-use Rattle.std.proofs.lemmas.List.{length-map}
+use Rattle.std.proofs.Common.{◌≡◌, ℕ, zero, suc, ◌+◌, ◌-◌, ◌*◌, ◌≤◌, ◌<◌, min, ℤ, ◌+ℤ◌, ◌*ℤ◌, sym, ap, ◌∙◌, arith, List, [], ◌∷◌, ◌++◌, length, map, get_or, take, drop, mul-le-mul}
 use Rattle.std.proofs.Math.Seq.{take-append_seam}
-use Rattle.clr_num.specs.Sums.{sum_over}
 use Rattle.clr_average.proofs.Sums.{sum_over-same}
 use Rattle.clr_stock.specs.Stock.{Store}
 use Rattle.clr_season.specs.Season.{Season, IsSeason}
-use Rattle.clr_model.specs.Policies.{Tree, joint_demands}
+use Rattle.clr_model.specs.Policies.{joint_demands}
 use Rattle.clr_model.specs.Revenue.{earn, full_stocks, left, of_store, stocks_left, sum_stores}
 use Rattle.clr_model.specs.Expected.{week_chance}
 use Rattle.clr_model.specs.JointWeek.{joint_base, joint_weighed}
@@ -15,7 +12,8 @@ use Rattle.clr_policy.specs.Written.{Written, finish, choose, ask, object_count,
 use Rattle.clr_policy.specs.Judged.{most_policy_size, policy_size, stock_demands}
 use Rattle.clr_policy.proofs.Enclosures.{no_weeks}
 use Rattle.clr_policy.specs.Unrolled.{tree_value, unroll}
-use Rattle.clr_policy.specs.StockLists.{AllWithin, AreValues, AreWithin, at_place, list_count, most_gain, most_reach, most_total, place_of, reach_left}
+use Rattle.clr_model.specs.Stocks.{lists_of, place_in}
+use Rattle.clr_policy.specs.StockLists.{AreValues, AreWithin, at_place, most_gain, most_reach, most_total, reach_left}
 use Rattle.std.proofs.lemmas.Int.{to_z-of_z}
 use mir.Syntax.{w128}
 use Rattle.clr_average.specs.Average.{IsWithin}
@@ -42,8 +40,8 @@ left_within (most ∷ mosts) (stock ∷ stocks) (demand ∷ week) h = (less h.0,
 -- a week in front of a policy
 pub week_valued : (div : ℤ → ℕ → ℤ) (season : Season) (done next before rung : ℕ) (after : Written) (later now : List ℤ) → next ≡ suc done →
     AreValues (full_stocks season) (λ stocks. tree_value div season next rung stocks (unroll after stocks)) later → length now ≡ length later →
-    ((stocks : List ℕ) → AreWithin (full_stocks season) stocks → at_place now (place_of (full_stocks season) stocks)
-    ≡ div (joint_weighed season done before rung stocks (λ demands rest. at_place later (place_of (full_stocks season) rest))) (joint_base season)) →
+    ((stocks : List ℕ) → AreWithin (full_stocks season) stocks → at_place now (place_in (full_stocks season) stocks)
+    ≡ div (joint_weighed season done before rung stocks (λ demands rest. at_place later (place_in (full_stocks season) rest))) (joint_base season)) →
     AreValues (full_stocks season) (λ stocks. tree_value div season done before stocks (unroll (choose rung after) stocks)) now
 week_valued div season done next before rung after later now next_is are same each = record {
   size = same ∙ are.size;
@@ -72,20 +70,20 @@ some_object season weeks finish some is = absurd (none (no_weeks season weeks is
 some_object season weeks (choose rung after) some is = omega arith
 some_object season weeks (ask store limit below above) some is = omega arith
 
-count_le : (top : ℕ) (stores : List Store) → list_count (map (λ store. store.units) stores) ≤ stock_demands top stores
+count_le : (top : ℕ) (stores : List Store) → lists_of (map (λ store. store.units) stores) ≤ stock_demands top stores
 count_le top [] = omega arith
 count_le top (store ∷ stores) =
     let whole : store.units + 1 ≤ store.units + 1 = omega arith in
     let demands : 1 ≤ min top store.units + 1 = omega arith in
     let row : (store.units + 1) * 1 ≤ (store.units + 1) * (min top store.units + 1) = mul-le-mul whole demands in
-    let all : ((store.units + 1) * 1) * list_count (map (λ s. s.units) stores) ≤ (store.units + 1) * (min top store.units + 1) * stock_demands top stores = mul-le-mul row (count_le top stores) in
+    let all : ((store.units + 1) * 1) * lists_of (map (λ s. s.units) stores) ≤ (store.units + 1) * (min top store.units + 1) * stock_demands top stores = mul-le-mul row (count_le top stores) in
     omega (arith, all)
 
-pub few_lists : (season : Season) (policy : Written) → IsSeason season → IsPolicy season policy → policy_size season policy ≤ most_policy_size → list_count (full_stocks season) ≤ most_policy_size
+pub few_lists : (season : Season) (policy : Written) → IsSeason season → IsPolicy season policy → policy_size season policy ≤ most_policy_size → lists_of (full_stocks season) ≤ most_policy_size
 few_lists season policy ok is size =
     let some : 1 ≤ object_count policy = some_object season season.rules.weeks policy ok.rules.first_week is in
-    let count : list_count (full_stocks season) ≤ stock_demands season.top season.stores = count_le season.top season.stores in
-    let all : 1 * list_count (full_stocks season) ≤ object_count policy * stock_demands season.top season.stores = mul-le-mul some count in
+    let count : lists_of (full_stocks season) ≤ stock_demands season.top season.stores = count_le season.top season.stores in
+    let all : 1 * lists_of (full_stocks season) ≤ object_count policy * stock_demands season.top season.stores = mul-le-mul some count in
     let held : object_count policy * stock_demands season.top season.stores ≤ most_policy_size = omega (arith, size) in
     omega (arith, all, held)
 
@@ -95,14 +93,14 @@ pub full_within : (mosts : List ℕ) → AreWithin mosts mosts
 full_within [] = tt
 full_within (most ∷ mosts) = (omega arith, full_within mosts)
 
-pub last_place : (mosts : List ℕ) → place_of mosts mosts + 1 ≡ list_count mosts
+pub last_place : (mosts : List ℕ) → place_in mosts mosts + 1 ≡ lists_of mosts
 last_place [] = omega arith
-last_place (most ∷ mosts) = let rest = last_place mosts in let split : (most + 1) * list_count mosts ≡ most * list_count mosts + list_count mosts = omega arith in omega (arith, rest, split)
+last_place (most ∷ mosts) = let rest = last_place mosts in let split : suc most * lists_of mosts ≡ most * lists_of mosts + lists_of mosts = omega arith in omega (arith, rest, split)
 
 pub last_value : (season : Season) (value : List ℕ → ℤ) (values : List ℤ) (len : ℕ) → AreValues (full_stocks season) value values → len ≡ length values → at_place values (len - 1) ≡ value (full_stocks season)
 last_value season value values len are is =
     let last = last_place (full_stocks season) in
-    let place : len - 1 ≡ place_of (full_stocks season) (full_stocks season) = omega (arith, is, are.size, last) in
+    let place : len - 1 ≡ place_in (full_stocks season) (full_stocks season) = omega (arith, is, are.size, last) in
     ap (at_place values) place ∙ are.each (full_stocks season) (full_within (full_stocks season))
 
 pub some_values : (season : Season) (value : List ℕ → ℤ) (values : List ℤ) → AreValues (full_stocks season) value values → 1 ≤ length values

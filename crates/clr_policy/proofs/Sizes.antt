@@ -1,5 +1,5 @@
 -- Numbers that are held.
-use Rattle.std.proofs.Common.{◌≡◌, ℕ, zero, suc, ◌+◌, ◌*◌, ◌≤◌, ◌<◌, min, refl, sym, ap, ◌∙◌, subst, arith, List, [], ◌∷◌, length, drop, get_or, Bool, true, false, mul-le-mul, mul_assoc, mul_comm, nat_le}
+use Rattle.std.proofs.Common.{◌≡◌, ℕ, zero, suc, ◌+◌, ◌*◌, ◌≤◌, ◌<◌, min, refl, sym, ap, ◌∙◌, arith, List, [], ◌∷◌, length, drop, get_or, Bool, true, false, mul-le-mul, mul_assoc, mul_comm, nat_le}
 use Rattle.std.proofs.lemmas.List.{drop_more}
 use Rattle.clr_stock.specs.Stock.{Store, no_store}
 use Rattle.clr_policy.specs.Judged.{stock_demands}

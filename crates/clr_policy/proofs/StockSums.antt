@@ -1,5 +1,5 @@
 -- One store's demands at a place: those that sell in full one by one, and the rest together.
-use Rattle.std.proofs.Common.{◌≡◌, ℕ, zero, suc, ◌+◌, ◌-◌, ◌*◌, ◌^◌, ◌≤◌, ◌<◌, min, ℤ, pos, ◌+ℤ◌, ◌*ℤ◌, refl, sym, ap, ap₂, ◌∙◌, subst, arith, List, [], ◌∷◌, ◌++◌, length, get_or, drop, sum, add-mul, mul-le-mul, le_trans, SFits, to_z, of_z}
+use Rattle.std.proofs.Common.{◌≡◌, ℕ, zero, suc, ◌+◌, ◌-◌, ◌*◌, ◌^◌, ◌≤◌, ◌<◌, min, ℤ, pos, ◌+ℤ◌, ◌*ℤ◌, refl, sym, ap, ap₂, ◌∙◌, subst, arith, List, [], ◌∷◌, ◌++◌, length, get_or, drop, sum, add-mul, mul-le-mul, le_trans, SFits}
 use Rattle.std.proofs.lemmas.Int.{to_z-of_z}
 use Rattle.std.proofs.lemmas.List.{drop_more}
 use Rattle.std.proofs.lemmas.List.Sums.{sum_by-cons}
@@ -8,14 +8,13 @@ use lib.IntN.{zero-*ℤ}
 use Rattle.clr_num.specs.Lists.{numbers}
 use Rattle.clr_num.specs.Sums.{sum_over}
 use Rattle.clr_average.specs.Average.{IsWithin, mass}
-use Rattle.clr_average.proofs.Masses.{mass_is_sum, mass_le}
 use Rattle.clr_average.proofs.Reading.{read, within_128}
 use Rattle.clr_average.proofs.Ring.{linear}
 use Rattle.clr_average.proofs.Sums.{sum_over-scale_right, sum_over-numbers_more}
 use Rattle.clr_average.proofs.Within.{within_more, within_pos, within_product, within_sum}
 use Rattle.clr_model.proofs.Sums.{sum_over-append, sum_over-same_among}
 use Rattle.std.specs.List.{AllByRecursion}
-use Rattle.clr_policy.specs.StockLists.{AreSmall, at_place, gain_of, most_total, part, stock_sum, sum_below}
+use Rattle.clr_policy.specs.StockLists.{AreSmall, most_total, part, stock_sum, sum_below}
 
 -- ---- at 128 bits
 

@@ -1,7 +1,6 @@
 -- The sums over a store's demands, by a season.
-use Rattle.std.proofs.Common.{◌≡◌, ℕ, zero, suc, ◌+◌, ◌-◌, ◌*◌, ◌^◌, ◌≤◌, ◌<◌, min, ℤ, pos, neg_ℤ, ◌+ℤ◌, ◌-ℤ◌, ◌*ℤ◌, ◌≤ℤ◌, refl, sym, ap, ap₂, ◌∙◌, subst, arith, List, length, get_or, sum, mul-le-mul, mul_assoc, mul_comm, Bool, true, false}
+use Rattle.std.proofs.Common.{◌≡◌, ℕ, suc, ◌+◌, ◌-◌, ◌*◌, ◌≤◌, ◌<◌, min, ℤ, pos, ◌+ℤ◌, ◌-ℤ◌, ◌*ℤ◌, refl, sym, ap, ap₂, ◌∙◌, subst, arith, List, length, sum, mul-le-mul, Bool, true, false}
 use Rattle.std.specs.Prelude.{nat_le}
-use lib.IntN.{*ℤ_comm}
 use Rattle.clr_num.specs.Lists.{numbers}
 use Rattle.clr_num.specs.Sums.{sum_over}
 use Rattle.clr_rules.specs.Rules.{price}
@@ -9,8 +8,8 @@ use Rattle.clr_rules.proofs.GridLemmas.{split_place}
 use Rattle.clr_average.specs.Average.{IsWithin}
 use Rattle.clr_average.proofs.Ring.{linear, add_mul, mul_add}
 use Rattle.clr_average.proofs.Sums.{sum_over-same}
-use Rattle.clr_average.proofs.Within.{within_more, within_sum}
-use Rattle.clr_season.specs.Season.{Season, IsSeason, IsPlace, weights_of, weight, demands, store_at}
+use Rattle.clr_average.proofs.Within.{within_sum}
+use Rattle.clr_season.specs.Season.{Season, IsSeason, weights_of, weight, demands}
 use Rattle.clr_model.specs.Revenue.{cent, earn, fee, week_cents, left}
 use Rattle.clr_policy.specs.StockLists.{AreSmall, AllWithin, at_place, gain_of, most_gain, most_total, part, stock_sum, store_sum}
 use Rattle.clr_policy.proofs.StockSums.{sum_within}

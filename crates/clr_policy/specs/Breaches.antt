@@ -1,5 +1,5 @@
 -- The first rule that a written branch breaks.
-use Rattle.std.specs.Prelude.{◌≡◌, ℕ, suc, ◌+◌, min, List, [], ◌∷◌, ◌++◌, length, map, take, Option, Some, None, Result, Ok, Err}
+use Rattle.std.specs.Prelude.{◌≡◌, ℕ, ◌+◌, min, List, [], ◌∷◌, ◌++◌, length, map, take, Option, Some, None, Result, Ok, Err}
 use Rattle.std.specs.Option.{option_map_or}
 use Rattle.clr_num.specs.Lists.{numbers}
 use Rattle.clr_rules.specs.Rules.{Rulebook, HasSummary, first_broken}

@@ -1,5 +1,5 @@
 -- What is answered of a policy: its value, or what stands against it.
-use Rattle.std.specs.Prelude.{◌≡◌, ℕ, ◌+◌, ◌*◌, min, nat_lt, if◌then◌else◌, ℤ, List, [], ◌∷◌, Option, Some, None, Result, Ok, Err}
+use Rattle.std.specs.Prelude.{◌≡◌, ℕ, ◌+◌, ◌*◌, min, nat_lt, if◌then◌else◌, ℤ, List, [], ◌∷◌, None, Result, Ok, Err}
 use Rattle.std.specs.Option.{option_map_or}
 use Rattle.clr_stock.specs.Stock.{Store}
 use Rattle.clr_season.specs.Season.{Season, IsSeason}

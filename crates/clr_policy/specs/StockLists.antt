@@ -8,6 +8,7 @@ use Rattle.clr_average.specs.Average.{IsWithin}
 use Rattle.clr_season.specs.Season.{Season, demands, weight}
 use Rattle.clr_model.specs.Revenue.{cent, earn, full_stocks, left, salvage_cents}
 use Rattle.clr_model.specs.JointFold.{fold_stores}
+use Rattle.clr_model.specs.Stocks.{lists_of, place_in}
 use Rattle.clr_policy.specs.declared.stock_lists.Week.{Week}
 
 -- a size that what a store earns in a week doesn't pass
@@ -18,23 +19,12 @@ most_gain = 20000000000000000
 abbrev pub most_total : ℕ
 most_total = 80000000000000000000000000000000000000
 
--- how many lists there are
-abbrev pub list_count : List ℕ → ℕ
-list_count [] = 1
-list_count (most ∷ mosts) = (most + 1) * list_count mosts
-
--- a list of stocks
+-- one stock for each store, none above its greatest one
 abbrev pub AreWithin : List ℕ → List ℕ → Type 0
 AreWithin [] [] = ⊤
 AreWithin [] (stock ∷ stocks) = ⊥
 AreWithin (most ∷ mosts) [] = ⊥
 AreWithin (most ∷ mosts) (stock ∷ stocks) = (stock ≤ most) × AreWithin mosts stocks
-
--- its place among them, from 0
-abbrev pub place_of : List ℕ → List ℕ → ℕ
-place_of [] stocks = 0
-place_of (most ∷ mosts) [] = 0
-place_of (most ∷ mosts) (stock ∷ stocks) = stock * list_count mosts + place_of mosts stocks
 
 -- the number at a place
 abbrev pub at_place : List ℤ → ℕ → ℤ
@@ -49,8 +39,8 @@ RowWithin reach width stock values = (place : ℕ) → place < width → IsWithi
 
 -- the number of each list of stocks is its value
 pub record AreValues (mosts : List ℕ) (value : List ℕ → ℤ) (values : List ℤ) : Type 0 where
-  pub size : length values ≡ list_count mosts
-  pub each : (stocks : List ℕ) → AreWithin mosts stocks → at_place values (place_of mosts stocks) ≡ value stocks
+  pub size : length values ≡ lists_of mosts
+  pub each : (stocks : List ℕ) → AreWithin mosts stocks → at_place values (place_in mosts stocks) ≡ value stocks
 
 -- ---- one store's demands
 
@@ -93,12 +83,12 @@ stocks_from season store = drop (store - 1) (full_stocks season)
 -- the values of these stores' stocks before their demands fall in a week
 abbrev pub folded : Season → ℕ → ℕ → ℕ → ℕ → List ℤ → List ℕ → ℤ
 folded season done before rung store values stocks =
-    fold_stores season done before rung store stocks (λ rest. at_place values (place_of (stocks_from season store) rest))
+    fold_stores season done before rung store stocks (λ rest. at_place values (place_in (stocks_from season store) rest))
 
 -- those of the stores after a store, in the row of one of its stocks
 abbrev pub row_folded : Season → ℕ → ℕ → ℕ → ℕ → ℕ → List ℤ → ℕ → List ℕ → ℤ
 row_folded season done before rung store width values stock rest =
-    fold_stores season done before rung (store + 1) rest (λ more. at_place values (stock * width + place_of (stocks_from season (store + 1)) more))
+    fold_stores season done before rung (store + 1) rest (λ more. at_place values (stock * width + place_in (stocks_from season (store + 1)) more))
 
 -- a week of the season, a rung and the rung before
 pub record IsWeek (season : Season) (week : Week) : Type 0 where

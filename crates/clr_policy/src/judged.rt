@@ -19,17 +19,18 @@ use clr_season::Season;
 use std::alloc::{AllocError, Global};
 use thiserror::Error;
 
-/// Why a policy has no value.
+/// Why a policy has no value. See docs/formats.md, "Policy files".
 #[derive(Clone, Copy, Debug, PartialEq, Eq, Error)]
 pub enum JudgeError {
     /// A branch, numbered from 1 in the order in which they end, `yes` before `no`, and held at 4,294,967,295, breaks a rule: the
     /// first rule that its first week breaks which breaks one. It is the first such branch, whether or not it can be reached.
     #[error("branch {branch} breaks the rule {rule:?}")]
     Rule { branch: u32, rule: Rule },
-    /// The base to the number of stores is greater than 10^18.
+    /// The base, to which the weights of a store in a week on a rung sum, is greater than 10^18 when raised to the number of
+    /// stores.
     #[error("the base to the number of stores is too great")]
     Base,
-    /// The size, held at 10^18, is greater than 100,000,000.
+    /// The size, held at 10^18, is greater than 100,000,000. [`judge`] says what it is.
     #[error("the size {found} is too great")]
     Size { found: u64 },
     /// Memory was wanting.
@@ -84,8 +85,9 @@ fn size_of(season: &Season, policy: &Policy) -> u64
     held_product(objects(policy), size_of_stocks(season))
 }
 
-/// A policy of a season that breaks no rule on any branch makes a tree that abides; what it earns lies between its value rounded
-/// down and its value rounded up, and these lie at most a unit apart for each week.
+/// A policy of a season that breaks no rule on any branch makes a tree that abides; what it earns in expectation lies between
+/// its value rounded down and its value rounded up, and these lie at most a unit apart for each week. See docs/model.md,
+/// "Written policies" and "Outcomes, policies and expected revenue".
 pub fn policies_valued()
     ensures { PoliciesValued }
 {}
@@ -108,9 +110,13 @@ fn value_of<R: Direction>(
     Ok(values[values.len() - 1])
 }
 
-/// The value of a policy at full stocks, in units, of which a cent has 10^6, each week rounded once for all stores in the
-/// direction `R`. The policy's branches have a rung for each week, and its tests ask for the season's stores, as those of
-/// [`crate::read_policy`] do.
+/// The value of a policy at full stocks, in units of 10^-8 of the currency, of which a cent has 10^6, each week rounded once
+/// for all stores in the direction `R`. It lies between -10^20 and 10^20. The policy's branches have a rung for each week, and
+/// its tests ask for the season's stores, as those of [`crate::read_policy`] do.
+///
+/// At the end of the season each unit left is worth the salvage of its store. Before a week the value of a list of stocks is
+/// the average, by the weights out of the base, over what the stores may be asked for in the week: of what they earn in it,
+/// costs of relabelling taken off, and of the value of what is left. See docs/model.md, "Written policies".
 ///
 /// The value rounded down and the value rounded up enclose what the policy earns in expectation, costs of relabelling taken
 /// off, and lie at most a unit apart for each week; the policy keeps every rule, whatever happens.

@@ -279,13 +279,15 @@ fn unread(error: &Error) -> PolicyError
     }
 }
 
-/// The policy of a policy file, which `serde_json` reads behind one byte order mark.
+/// The policy of a policy file of at most 33,554,432 bytes, which `serde_json` reads behind one byte order mark. The form is
+/// that of docs/formats.md, "Policy files".
 ///
 /// A place is the root, a `then`, a `yes` or a `no`. Where fewer rungs than weeks stand above a place, it holds an object. One
 /// with a field `rung`, from 1 to the number of rungs, sets the rung of the next week; it may have a field `then`, for the
-/// place after that week. Any other has the fields `store`, the name of a store, `left_at_most`, from 0 to 2,000, `yes` and
-/// `no`: it goes on by the stock that the store has left. No object has another field, and of a field that stands twice the
-/// last counts. Where a rung for each week stands above a place, it is a `then` that is absent or null, and a branch ends.
+/// place after that week. Any other has the fields `store`, the name of a store, `left_at_most`, from 0 to 2,000 units, `yes`
+/// and `no`: it goes on with `yes` where the store has at most so many units left, and else with `no`. No object has another
+/// field, and of a field that stands twice the last counts. Where a rung for each week stands above a place, it is a `then`
+/// that is absent or null, and a branch ends.
 ///
 /// # Errors
 ///

@@ -6,7 +6,8 @@ ghost use Rattle.clr_model.specs.JointWeek.{joint_base};
 ghost use Rattle.clr_model.specs.Revenue.{cent, fee};
 ghost use Rattle.clr_rules.specs.Rules.{price};
 ghost use Rattle.clr_season.specs.Season.{IsPlace, store_at};
-ghost use Rattle.clr_policy.specs.StockLists.{AllWithin, AreSmall, AreValues, AreWithin, IsWeek, RowWithin, at_place, folded, gain_of, list_count, most_gain, most_reach, most_total, part, place_of, reach_after, row_folded, stock_sum, store_sum, stocks_from};
+ghost use Rattle.clr_model.specs.Stocks.{lists_of, place_in};
+ghost use Rattle.clr_policy.specs.StockLists.{AllWithin, AreSmall, AreValues, AreWithin, IsWeek, RowWithin, at_place, folded, gain_of, most_gain, most_reach, most_total, part, reach_after, row_folded, stock_sum, store_sum, stocks_from};
 
 use clr_model::{CENT, relabelling};
 use clr_season::Season;
@@ -188,9 +189,9 @@ pub fn weigh_stores(values: &mut [i128], season: &Season, week: Week, store: u32
     requires low { 1 ≤ store }
     requires high { store ≤ length season.now.stores + 1 }
     requires base { joint_base season.now ≤ most_joint_base }
-    requires size { length values.old ≡ list_count (stocks_from season.now store) }
+    requires size { length values.old ≡ lists_of (stocks_from season.now store) }
     requires reach { AllWithin most_reach values.old }
-    ensures each { (stocks : List ℕ) → AreWithin (stocks_from season.now store) stocks → at_place values.new (place_of (stocks_from season.now store) stocks) ≡ folded season.now week.done week.before week.rung store values.old stocks }
+    ensures each { (stocks : List ℕ) → AreWithin (stocks_from season.now store) stocks → at_place values.new (place_in (stocks_from season.now store) stocks) ≡ folded season.now week.done week.before week.rung store values.old stocks }
     ensures within { (reach : ℕ) → reach ≤ most_reach → AllWithin reach values.old → AllWithin (reach_after season.now store reach) values.new }
 {
     if store > season.stores() {
@@ -218,10 +219,10 @@ fn weigh_rows(
     requires high { store ≤ length season.now.stores }
     requires few { store ≤ 64 }
     requires base { joint_base season.now ≤ most_joint_base }
-    requires width { width ≡ list_count (stocks_from season.now (store + 1)) }
+    requires width { width ≡ lists_of (stocks_from season.now (store + 1)) }
     requires size { length values.old ≡ rows * width }
     requires reach { AllWithin most_reach values.old }
-    ensures each { (stock : ℕ) (rest : List ℕ) → stock < rows → AreWithin (stocks_from season.now (store + 1)) rest → at_place values.new (stock * width + place_of (stocks_from season.now (store + 1)) rest) ≡ row_folded season.now week.done week.before week.rung store width values.old stock rest }
+    ensures each { (stock : ℕ) (rest : List ℕ) → stock < rows → AreWithin (stocks_from season.now (store + 1)) rest → at_place values.new (stock * width + place_in (stocks_from season.now (store + 1)) rest) ≡ row_folded season.now week.done week.before week.rung store width values.old stock rest }
     ensures within { (reach : ℕ) → reach ≤ most_reach → AllWithin reach values.old → AllWithin (reach_after season.now (store + 1) reach) values.new }
 {
     for stock in 0..rows {
@@ -244,10 +245,10 @@ fn weigh_row(
     requires high { store ≤ length season.now.stores }
     requires few { store ≤ 64 }
     requires base { joint_base season.now ≤ most_joint_base }
-    requires width { width ≡ list_count (stocks_from season.now (store + 1)) }
+    requires width { width ≡ lists_of (stocks_from season.now (store + 1)) }
     requires inside { stock * width + width ≤ length values.old }
     requires reach { RowWithin most_reach width stock values.old }
-    ensures row { (rest : List ℕ) → AreWithin (stocks_from season.now (store + 1)) rest → at_place values.new (stock * width + place_of (stocks_from season.now (store + 1)) rest) ≡ row_folded season.now week.done week.before week.rung store width values.old stock rest }
+    ensures row { (rest : List ℕ) → AreWithin (stocks_from season.now (store + 1)) rest → at_place values.new (stock * width + place_in (stocks_from season.now (store + 1)) rest) ≡ row_folded season.now week.done week.before week.rung store width values.old stock rest }
     ensures within { (reach : ℕ) → reach ≤ most_reach → RowWithin reach width stock values.old → RowWithin (reach_after season.now (store + 1) reach) width stock values.new }
     ensures before { (k : ℕ) → k < stock * width → at_place values.new k ≡ at_place values.old k }
     ensures after { (k : ℕ) → stock * width + width ≤ k → at_place values.new k ≡ at_place values.old k }

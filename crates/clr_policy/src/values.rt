@@ -6,7 +6,8 @@ ghost use Rattle.clr_model.specs.JointValue.{end_value};
 ghost use Rattle.clr_model.specs.JointWeek.{joint_base, joint_weighed};
 ghost use Rattle.clr_model.specs.Revenue.{cent, full_stocks, of_store};
 ghost use Rattle.clr_season.specs.Season.{IsSeason, store_at};
-ghost use Rattle.clr_policy.specs.StockLists.{AllWithin, AreValues, AreWithin, IsWeek, at_place, chosen, ends_from, list_count, most_gain, most_reach, place_of, reach_left, rows_of, stocks_from, with_more};
+ghost use Rattle.clr_model.specs.Stocks.{lists_of, place_in};
+ghost use Rattle.clr_policy.specs.StockLists.{AllWithin, AreValues, AreWithin, IsWeek, at_place, chosen, ends_from, most_gain, most_reach, reach_left, rows_of, stocks_from, with_more};
 ghost use Rattle.clr_policy.specs.Unrolled.{tree_value, unroll};
 ghost use Rattle.clr_policy.specs.Written.{IsPolicyFor, written};
 
@@ -39,9 +40,11 @@ fn rows_at_end(
     requires stock { stock ≤ 2000 }
     requires unit { unit ≤ 10000000000000 }
     requires reach { AllWithin most_reach after.now }
+    requires size { length after.now * (stock + 1) ≤ most_policy_size }
     ensures { IfOk result (λ values. values.items ≡ rows_of unit after.now (stock + 1)) }
 {
-    let mut values = Vec::new(alloc);
+    let rows = stock as usize + 1;
+    let mut values = Vec::with_capacity(alloc, after.len() * rows)?;
     for units in 0..stock + 1 {
         push_row(&mut values, after, unit * u64::from(units))?;
     }
@@ -89,6 +92,7 @@ fn salvage_gain(season: &Season, store: u32) -> u64
 
 /// The values at the end of the season.
 fn end_values(alloc: Global, season: &Season) -> Result<Vec<i128>, AllocError>
+    requires lists { lists_of (full_stocks season.now) ≤ most_policy_size }
     ensures values { IfOk result (λ values. AreValues (full_stocks season.now) (end_value season.now) values.items) }
     ensures reach { IfOk result (λ values. AllWithin (reach_left 0) values.items) }
 {
@@ -116,9 +120,9 @@ fn base_of_all(season: &Season) -> u64
 fn weigh_week<R: Direction>(values: &mut [i128], season: &Season, week: Week)
     requires week { IsWeek season.now week }
     requires base { joint_base season.now ≤ most_joint_base }
-    requires size { length values.old ≡ list_count (full_stocks season.now) }
+    requires size { length values.old ≡ lists_of (full_stocks season.now) }
     requires reach { AllWithin most_reach values.old }
-    ensures each { (stocks : List ℕ) → AreWithin (full_stocks season.now) stocks → at_place values.new (place_of (full_stocks season.now) stocks) ≡ R.quotient (joint_weighed season.now week.done week.before week.rung stocks (λ demands rest. at_place values.old (place_of (full_stocks season.now) rest))) (joint_base season.now) }
+    ensures each { (stocks : List ℕ) → AreWithin (full_stocks season.now) stocks → at_place values.new (place_in (full_stocks season.now) stocks) ≡ R.quotient (joint_weighed season.now week.done week.before week.rung stocks (λ demands rest. at_place values.old (place_in (full_stocks season.now) rest))) (joint_base season.now) }
     ensures within { (reach : ℕ) → reach ≤ most_reach → AllWithin reach values.old → AllWithin (reach + 64 * most_gain) values.new }
 {
     weigh_stores(values, season, week, 1);
@@ -129,8 +133,8 @@ fn weigh_week<R: Direction>(values: &mut [i128], season: &Season, week: Week)
 fn width_of(season: &Season, store: u32) -> usize
     requires low { 1 ≤ store }
     requires high { store ≤ length season.now.stores }
-    requires lists { list_count (full_stocks season.now) ≤ most_policy_size }
-    ensures value { result ≡ list_count (stocks_from season.now (store + 1)) }
+    requires lists { lists_of (full_stocks season.now) ≤ most_policy_size }
+    ensures value { result ≡ lists_of (stocks_from season.now (store + 1)) }
     ensures some { 1 ≤ result }
 {
     let mut width = 1;
@@ -144,10 +148,10 @@ fn width_of(season: &Season, store: u32) -> usize
 fn choose(below: &mut [i128], above: &[i128], season: &Season, store: u32, limit: u32)
     requires low { 1 ≤ store }
     requires high { store ≤ length season.now.stores }
-    requires lists { list_count (full_stocks season.now) ≤ most_policy_size }
-    requires size { length below.old ≡ list_count (full_stocks season.now) }
-    requires same { length above.now ≡ list_count (full_stocks season.now) }
-    ensures each { (stocks : List ℕ) → AreWithin (full_stocks season.now) stocks → at_place below.new (place_of (full_stocks season.now) stocks) ≡ (if nat_le (of_store stocks store) limit then at_place below.old (place_of (full_stocks season.now) stocks) else at_place above.now (place_of (full_stocks season.now) stocks)) }
+    requires lists { lists_of (full_stocks season.now) ≤ most_policy_size }
+    requires size { length below.old ≡ lists_of (full_stocks season.now) }
+    requires same { length above.now ≡ lists_of (full_stocks season.now) }
+    ensures each { (stocks : List ℕ) → AreWithin (full_stocks season.now) stocks → at_place below.new (place_in (full_stocks season.now) stocks) ≡ (if nat_le (of_store stocks store) limit then at_place below.old (place_in (full_stocks season.now) stocks) else at_place above.now (place_in (full_stocks season.now) stocks)) }
     ensures within { (reach : ℕ) → AllWithin reach below.old → AllWithin reach above.now → AllWithin reach below.new }
 {
     let width = width_of(season, store);
@@ -169,7 +173,7 @@ pub fn values_of<R: Direction>(
     requires before { (1 ≤ before) × (before ≤ length season.now.rules.prices) }
     requires policy { IsPolicyFor season.now (season.now.rules.weeks - done) (written policy.now) }
     requires base { joint_base season.now ≤ most_joint_base }
-    requires lists { list_count (full_stocks season.now) ≤ most_policy_size }
+    requires lists { lists_of (full_stocks season.now) ≤ most_policy_size }
     ensures values { IfOk result (λ values. AreValues (full_stocks season.now) (λ stocks. tree_value R.quotient season.now done before stocks (unroll (written policy.now) stocks)) values.items) }
     ensures reach { IfOk result (λ values. AllWithin (reach_left (season.now.rules.weeks - done)) values.items) }
 {

@@ -1,8 +1,7 @@
-use Rattle.std.proofs.Common.{◌≡◌, ◌≤◌, ◌<◌, ◌+◌, ◌-◌, suc, rules, arith, sym, ap, subst, length, List, ◌∷◌, [], ◌++◌, ℕ, min, Fits, w32, Ok, Err}
+use Rattle.std.proofs.Common.{◌+◌, ◌-◌, rules, arith, sym, ap, subst, length, ◌∷◌, [], ◌++◌, Ok, Err}
 use Rattle.clr_rules.specs.Rules.{HasSummary}
-use Rattle.clr_policy.specs.Written.{IsPolicyFor, object_count, choose, ask, branches, written}
-use Rattle.clr_policy.specs.PolicyFile.{most_branches}
-use Rattle.clr_policy.specs.Breaches.{Finds, behind, first_breach}
+use Rattle.clr_policy.specs.Written.{IsPolicyFor, object_count, branches, written}
+use Rattle.clr_policy.specs.Breaches.{Finds, behind}
 use Rattle.clr_policy.proofs.Parts.{week_left, both_left}
 use Rattle.clr_policy.proofs.Walks.{ends, goes_on, breaks, first_of_two, second_of_two, left_after, ended_is}
 use Rattle.clr_policy.proofs.branches.+walk.Goals as goal

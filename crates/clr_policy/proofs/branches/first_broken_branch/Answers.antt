@@ -1,7 +1,7 @@
-use Rattle.std.proofs.Common.{◌≡◌, subst, sym, rules, refl, [], ℕ, Some, None, Ok, Err}
+use Rattle.std.proofs.Common.{subst, sym, refl, [], Ok, Err}
 use Rattle.clr_rules.specs.Rules.{HasSummary}
 use Rattle.clr_policy.specs.Written.{branches, written}
-use Rattle.clr_policy.specs.Breaches.{Finds, first_breach}
+use Rattle.clr_policy.specs.Breaches.{Finds}
 use Rattle.clr_policy.proofs.Walks.{has_none, behind-none}
 use Rattle.clr_policy.proofs.branches.first_broken_branch.Goals as goal
 

@@ -1,4 +1,4 @@
-use Rattle.std.proofs.Common.{◌≡◌, ◌≤◌, ◌<◌, rules, arith}
+use Rattle.std.proofs.Common.{arith}
 use Rattle.clr_policy.proofs.Walks.{longer, range_of, some_next}
 use Rattle.clr_policy.proofs.branches.week_after.Goals as goal
 

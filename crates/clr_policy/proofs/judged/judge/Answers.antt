@@ -1,10 +1,8 @@
-use Rattle.std.proofs.Common.{◌≡◌, ◌∙◌, sym, ap, pos, ◌*ℤ◌, subst, rules, arith, Option, Some, None}
-use Rattle.std.proofs.lemmas.Int.{to_z-of_z}
-use mir.Syntax.{w128}
+use Rattle.std.proofs.Common.{◌≡◌, ◌∙◌, sym, pos, ◌*ℤ◌, subst, rules, arith, None}
 use Rattle.clr_model.specs.Expected.{den, season_earned}
 use Rattle.clr_model.specs.Revenue.{cent, full_stocks}
 use Rattle.clr_policy.specs.Breaches.{first_breach}
-use Rattle.clr_policy.specs.Unrolled.{policy_tree, policy_value}
+use Rattle.clr_policy.specs.Unrolled.{policy_tree}
 use Rattle.clr_policy.specs.Written.{branches, written}
 use Rattle.clr_policy.proofs.Enclosures.{policies_valued_lem, value_leans}
 use Rattle.clr_policy.proofs.PolicyWeeks.{reads_back}

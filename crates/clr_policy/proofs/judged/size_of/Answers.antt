@@ -1,4 +1,4 @@
-use Rattle.std.proofs.Common.{◌≡◌, ◌∙◌, rules, arith, ap₂, min, ◌*◌}
+use Rattle.std.proofs.Common.{◌∙◌, arith, ap₂, min, ◌*◌}
 use Rattle.clr_policy.specs.Written.{most_objects, object_count, written}
 use Rattle.clr_policy.specs.Judged.{stock_demands}
 use Rattle.clr_policy.proofs.Sizes.{held_both, some_lists}

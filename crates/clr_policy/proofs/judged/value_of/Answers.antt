@@ -1,13 +1,10 @@
-use Rattle.std.proofs.Common.{◌≡◌, ◌≤◌, ◌<◌, ◌-◌, sym, ap, ◌∙◌, subst, length, arith, rules, List, ℕ, ℤ, SFits}
-use Rattle.std.proofs.lemmas.Int.{to_z-of_z}
-use mir.Syntax.{w128}
+use Rattle.std.proofs.Common.{◌≡◌, ◌≤◌, ◌-◌, sym, ◌∙◌, subst, length, arith, rules}
 use Rattle.clr_average.specs.Average.{IsWithin}
 use Rattle.clr_average.proofs.Within.{within_more}
 use Rattle.clr_policy.specs.Written.{written}
 use Rattle.clr_policy.specs.Unrolled.{tree_value, unroll}
-use Rattle.clr_policy.specs.StockLists.{at_place, most_reach, most_total, reach_left}
+use Rattle.clr_policy.specs.StockLists.{at_place, most_reach, reach_left}
 use Rattle.clr_policy.proofs.PolicyWeeks.{few_lists, item_is, last_value, reads_back, reach_small, some_values}
-use Rattle.clr_policy.proofs.StockSums.{in_128}
 use Rattle.clr_policy.proofs.judged.value_of.Goals as goal
 
 pub values_of-requires-clause-lists : goal.values_of-requires-clause-lists

@@ -1,10 +1,10 @@
-use Rattle.std.proofs.Common.{◌≡◌, ◌∙◌, sym, ap, subst, rules, ℕ, ◌+◌, min, length, codes, arith, Result, Ok, Err, true, false, ◌≤◌}
+use Rattle.std.proofs.Common.{◌≡◌, sym, rules, ◌+◌, min, length, codes, true, false, ◌≤◌}
 use Rattle.std.specs.Option.{is_some}
-use Rattle.serde_json.specs.Find.{as_object, as_null}
+use Rattle.serde_json.specs.Find.{as_object}
 use Rattle.serde_json.specs.View.{view}
 use Rattle.clr_policy.specs.Written.{branches, written}
-use Rattle.clr_policy.specs.PolicyFile.{Gives, end_place, field_at, has, most_branches, test_in}
-use Rattle.clr_policy.proofs.Places.{null_ends, other_breaks, late_breaks, rung_stands, test_stands, both_stand, second_breaks, field_deep}
+use Rattle.clr_policy.specs.PolicyFile.{field_at, has, most_branches}
+use Rattle.clr_policy.proofs.Places.{null_ends, rung_stands, test_stands, both_stand, second_breaks, field_deep}
 use Rattle.clr_policy.proofs.Parts.{rung_is}
 use Rattle.clr_policy.proofs.policy_file.+places.Goals as goal
 

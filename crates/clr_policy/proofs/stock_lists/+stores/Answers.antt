@@ -1,8 +1,8 @@
-use Rattle.std.proofs.Common.{◌≡◌, ◌≤◌, ◌<◌, ◌+◌, ◌-◌, ◌*◌, ◌/◌, ◌^◌, suc, length, sym, ap, ap₂, ◌∙◌, subst, rules, arith, refl, ℕ, List}
+use Rattle.std.proofs.Common.{◌≡◌, ◌≤◌, ◌<◌, ◌+◌, ◌-◌, ◌*◌, ◌/◌, ◌^◌, length, sym, ap, ap₂, ◌∙◌, subst, rules, arith}
 use Rattle.clr_average.specs.Average.{IsWithin}
-use Rattle.clr_season.specs.Season.{store_at}
-use Rattle.clr_policy.specs.StockLists.{AllWithin, list_count, most_gain, most_reach, most_total, reach_after, stocks_from}
-use Rattle.clr_policy.proofs.Folds.{base_most, first_folds, mid_length, mid_within, none_folds, none_reach, one_row_more, put_at, reach_fits, reach_more, row_inside, row_is, row_reach, rows_divide, rows_within, size_splits}
+use Rattle.clr_model.specs.Stocks.{lists_of}
+use Rattle.clr_policy.specs.StockLists.{AllWithin, most_gain, most_reach, most_total, reach_after, stocks_from}
+use Rattle.clr_policy.proofs.Folds.{base_most, first_folds, mid_length, mid_within, one_row_more, put_at, reach_fits, reach_more, row_is, rows_divide, rows_within, size_splits}
 use Rattle.clr_policy.proofs.stock_lists.+stores.Goals as goal
 
 pub weigh_row-returns-clause-row : goal.weigh_row-returns-clause-row
@@ -30,9 +30,9 @@ weigh_rows-returns-clause-within t c reach le all =
 pub weigh_stores-weigh_rows-requires : goal.weigh_stores-weigh_rows-requires
 weigh_stores-weigh_rows-requires t c =
     let high : c.args.store ≤ length c.args.season.now.stores = search rules in
-    let split : length c.args.values.now ≡ (c.stock.result + 1) * list_count (stocks_from c.args.season.now (c.args.store + 1))
-    = c.requires.size ∙ (size_splits c.args.season.now c.args.store c.requires.low high ∙ ap (λ n. (n + 1) * list_count (stocks_from c.args.season.now (c.args.store + 1))) (sym c.stock.ensures.value)) in
-    let width : length c.args.values.now / (c.stock.result + 1) ≡ list_count (stocks_from c.args.season.now (c.args.store + 1)) = rows_divide _ (c.stock.result + 1) _ split (omega arith) in
+    let split : length c.args.values.now ≡ (c.stock.result + 1) * lists_of (stocks_from c.args.season.now (c.args.store + 1))
+    = c.requires.size ∙ (size_splits c.args.season.now c.args.store c.requires.low high ∙ ap (λ n. (n + 1) * lists_of (stocks_from c.args.season.now (c.args.store + 1))) (sym c.stock.ensures.value)) in
+    let width : length c.args.values.now / (c.stock.result + 1) ≡ lists_of (stocks_from c.args.season.now (c.args.store + 1)) = rows_divide _ (c.stock.result + 1) _ split (omega arith) in
     (omega (arith, c.decreases), (c.requires.week, (c.requires.low, (high, (omega (arith, high, c.stores.ensures.facts.stores.few), (c.requires.base, (width, (split ∙ ap (λ n. (c.stock.result + 1) * n) (sym width), c.requires.reach))))))))
 
 pub weigh_stores-pow-scale-requires : goal.weigh_stores-pow-scale-requires
@@ -44,9 +44,9 @@ weigh_stores-pow-scale-requires t c =
 pub weigh_stores-weigh_store-requires-clause-size : goal.weigh_stores-weigh_store-requires-clause-size
 weigh_stores-weigh_store-requires-clause-size t c =
     let high : c.args.store ≤ length c.args.season.now.stores = search rules in
-    let split : length c.args.values.now ≡ (c.stock.result + 1) * list_count (stocks_from c.args.season.now (c.args.store + 1))
-    = c.requires.size ∙ (size_splits c.args.season.now c.args.store c.requires.low high ∙ ap (λ n. (n + 1) * list_count (stocks_from c.args.season.now (c.args.store + 1))) (sym c.stock.ensures.value)) in
-    let width : length c.args.values.now / (c.stock.result + 1) ≡ list_count (stocks_from c.args.season.now (c.args.store + 1)) = rows_divide _ (c.stock.result + 1) _ split (omega arith) in
+    let split : length c.args.values.now ≡ (c.stock.result + 1) * lists_of (stocks_from c.args.season.now (c.args.store + 1))
+    = c.requires.size ∙ (size_splits c.args.season.now c.args.store c.requires.low high ∙ ap (λ n. (n + 1) * lists_of (stocks_from c.args.season.now (c.args.store + 1))) (sym c.stock.ensures.value)) in
+    let width : length c.args.values.now / (c.stock.result + 1) ≡ lists_of (stocks_from c.args.season.now (c.args.store + 1)) = rows_divide _ (c.stock.result + 1) _ split (omega arith) in
     c.weigh_rows.auto.values ∙ (split ∙ ap₂ (λ n w. (n + 1) * w) c.stock.ensures.value (sym width))
 
 pub weigh_stores-weigh_store-requires-clause-scale : goal.weigh_stores-weigh_store-requires-clause-scale
@@ -69,9 +69,9 @@ weigh_stores-weigh_store-requires-clause-small t c =
 pub weigh_stores-returns-clause-each : goal.weigh_stores-returns-clause-each
 weigh_stores-returns-clause-each t c stocks held =
     let high : c.args.store ≤ length c.args.season.now.stores = search rules in
-    let split : length c.args.values.now ≡ (c.stock.result + 1) * list_count (stocks_from c.args.season.now (c.args.store + 1))
-    = c.requires.size ∙ (size_splits c.args.season.now c.args.store c.requires.low high ∙ ap (λ n. (n + 1) * list_count (stocks_from c.args.season.now (c.args.store + 1))) (sym c.stock.ensures.value)) in
-    let width : length c.args.values.now / (c.stock.result + 1) ≡ list_count (stocks_from c.args.season.now (c.args.store + 1)) = rows_divide _ (c.stock.result + 1) _ split (omega arith) in
+    let split : length c.args.values.now ≡ (c.stock.result + 1) * lists_of (stocks_from c.args.season.now (c.args.store + 1))
+    = c.requires.size ∙ (size_splits c.args.season.now c.args.store c.requires.low high ∙ ap (λ n. (n + 1) * lists_of (stocks_from c.args.season.now (c.args.store + 1))) (sym c.stock.ensures.value)) in
+    let width : length c.args.values.now / (c.stock.result + 1) ≡ lists_of (stocks_from c.args.season.now (c.args.store + 1)) = rows_divide _ (c.stock.result + 1) _ split (omega arith) in
     let same : c.pow-scale.result ≡ c.args.season.now.base ^ (length c.args.season.now.stores - c.args.store) = c.pow-scale.ensures ∙ ap₂ (λ b n. b ^ (n - c.args.store)) (c.from.ensures ∙ c.base.ensures.value) c.stores-2.ensures.value in
     first_folds c.args.season.now c.args.week c.args.store (length c.args.values.now / (c.stock.result + 1)) c.pow-scale.result c.args.values.now c.weigh_rows.new.values c.weigh_store.new.values stocks c.requires.low high width same
     (λ x rest lt within. c.weigh_rows.ensures.each x rest (omega (arith, lt, c.stock.ensures.value)) within) c.weigh_store.ensures.each held

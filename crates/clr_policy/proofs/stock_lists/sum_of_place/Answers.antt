@@ -1,8 +1,7 @@
-use Rattle.std.proofs.Common.{◌≡◌, ◌≤◌, ◌<◌, ◌-◌, ◌+◌, suc, ℤ, pos, ◌+ℤ◌, ◌*ℤ◌, min, length, sym, ap, ◌∙◌, subst, rules, arith, get_or, sum, drop}
+use Rattle.std.proofs.Common.{◌≡◌, ◌-◌, ◌+◌, suc, pos, ◌+ℤ◌, ◌*ℤ◌, min, length, sym, ap, ◌∙◌, subst, rules, arith, get_or, sum, drop}
 use Rattle.std.proofs.lemmas.Int.{to_z-of_z}
 use mir.Syntax.{w128}
 use Rattle.clr_average.specs.Average.{IsWithin}
-use Rattle.clr_average.proofs.Reading.{read}
 use Rattle.clr_policy.specs.StockLists.{most_total, sum_below, stock_sum, part}
 use Rattle.clr_policy.proofs.StockSums.{below_more, below_total, in_128, part_total, rest_light, sum_splits, weighed_total, weight_light, sum_total}
 use Rattle.clr_policy.proofs.stock_lists.sum_of_place.Goals as goal

@@ -1,4 +1,4 @@
-use Rattle.std.proofs.Common.{◌≡◌, ◌≤◌, ◌<◌, ◌+◌, ◌-◌, ◌*◌, suc, length, sum, sym, ap, ◌∙◌, subst, rules, arith, refl, ℕ, List}
+use Rattle.std.proofs.Common.{◌≡◌, ◌≤◌, ◌<◌, ◌+◌, ◌-◌, ◌*◌, suc, length, sum, sym, ap, ◌∙◌, subst, arith, ℕ}
 use Rattle.clr_season.specs.Season.{weights_of, store_at}
 use Rattle.clr_policy.specs.StockLists.{AreSmall, at_place, most_gain, stock_sum}
 use Rattle.clr_policy.proofs.StoreSums.{IsWeighed, row_small, one_stock_more, all_within}

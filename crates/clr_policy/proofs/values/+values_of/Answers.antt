@@ -1,9 +1,9 @@
-use Rattle.std.proofs.Common.{◌≡◌, ◌≤◌, ◌<◌, ◌+◌, ◌-◌, ◌*◌, suc, pos, sym, ap, ◌∙◌, subst, length, arith, rules, refl, List, ℤ, ℕ}
+use Rattle.std.proofs.Common.{◌≡◌, ◌<◌, ◌+◌, ◌-◌, sym, ap, ◌∙◌, subst, length, arith, rules}
 use Rattle.clr_average.proofs.Within.{within_more}
 use Rattle.clr_model.specs.Revenue.{full_stocks}
-use Rattle.clr_policy.specs.Written.{IsPolicyFor, choose, object_count, written}
+use Rattle.clr_policy.specs.Written.{IsPolicyFor, object_count, written}
 use Rattle.clr_policy.specs.Unrolled.{tree_value, unroll}
-use Rattle.clr_policy.specs.StockLists.{AllWithin, AreValues, IsWeek, most_gain, most_reach, reach_left}
+use Rattle.clr_policy.specs.StockLists.{AllWithin, AreValues, most_reach, reach_left}
 use Rattle.clr_policy.proofs.Parts.{both_left, week_left}
 use Rattle.clr_policy.proofs.PolicyWeeks.{reach_small, reach_week, week_valued, written_back}
 use Rattle.clr_policy.proofs.Walks.{left_after}

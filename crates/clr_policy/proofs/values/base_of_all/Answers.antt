@@ -1,4 +1,4 @@
-use Rattle.std.proofs.Common.{◌≡◌, ◌≤◌, subst, sym, ◌∙◌, ap₂, ◌^◌, length, rules}
+use Rattle.std.proofs.Common.{◌≤◌, subst, sym, ◌∙◌, ap₂, ◌^◌, length}
 use Rattle.std.proofs.Math.Nat.{one-le-pow}
 use Rattle.clr_policy.proofs.values.base_of_all.Goals as goal
 

@@ -1,6 +1,5 @@
-use Rattle.std.proofs.Common.{◌≡◌, ◌<◌, ◌+◌, ◌∙◌, sym, ap, subst, length, arith, rules}
-use Rattle.clr_average.specs.Average.{IsWithin}
-use Rattle.clr_policy.proofs.Tests.{chosen_is, chosen_within}
+use Rattle.std.proofs.Common.{◌+◌, ap}
+use Rattle.clr_policy.proofs.Tests.{chosen_is}
 use Rattle.clr_policy.proofs.values.choose.Goals as goal
 
 pub returns-clause-each : goal.returns-clause-each

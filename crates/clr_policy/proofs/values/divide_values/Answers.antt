@@ -1,4 +1,4 @@
-use Rattle.std.proofs.Common.{◌≡◌, ◌<◌, ◌∙◌, sym, subst, length, arith, rules}
+use Rattle.std.proofs.Common.{◌<◌, sym, subst, length, rules}
 use Rattle.clr_average.specs.Average.{IsWithin}
 use Rattle.clr_average.proofs.Within.{within_quotient}
 use Rattle.clr_policy.specs.StockLists.{at_place}

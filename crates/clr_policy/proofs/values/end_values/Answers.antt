@@ -1,9 +1,21 @@
-use Rattle.std.proofs.Common.{◌≡◌, ◌≤◌, ◌<◌, ◌+◌, ◌-◌, ◌*◌, suc, pos, sym, ap, ◌∙◌, subst, length, arith, rules, refl, [], ◌∷◌, List, ℤ, ℕ}
+use Rattle.std.proofs.Common.{◌≡◌, ◌<◌, ◌+◌, ◌-◌, ◌*◌, suc, sym, ap, ◌∙◌, subst, length, arith, rules, ℕ}
 use Rattle.clr_season.specs.Season.{store_at}
 use Rattle.clr_model.specs.Revenue.{cent}
 use Rattle.clr_policy.specs.StockLists.{AllWithin, AreValues, ends_from, most_gain, rows_of, stocks_from}
-use Rattle.clr_policy.proofs.Ends.{all_ends, no_store_yet, one_store_more, rows_within}
+use Rattle.clr_model.specs.Stocks.{lists_of}
+use Rattle.clr_policy.proofs.Tests.{last_lists_few}
+use Rattle.clr_policy.proofs.Ends.{all_ends, one_store_more, rows_within}
 use Rattle.clr_policy.proofs.values.end_values.Goals as goal
+
+pub rows_at_end-requires-clause-size : goal.rows_at_end-requires-clause-size
+rows_at_end-requires-clause-size c =
+    let inside : c.loop-index.index < length c.args.season.now.stores = search rules in
+    let left : ℕ = length c.args.season.now.stores - (c.loop-index.index + 1) in
+    let store : c.stores-stores.result - c.loop-index.index ≡ suc left = omega (arith, c.stores-stores.ensures.value, inside) in
+    let before : length c.args.season.now.stores - c.loop-index.index + 1 ≡ suc left + 1 = omega (arith, inside) in
+    let stock : c.stock.result ≡ (store_at c.args.season.now (suc left)).units = subst (λ n. c.stock.result ≡ (store_at c.args.season.now n).units) store c.stock.ensures.value in
+    let size : length c.deref.result.now ≡ lists_of (stocks_from c.args.season.now (suc left + 1)) = ap length c.deref.ensures.value ∙ (c.loop-index.invariant.values.size ∙ ap (λ n. lists_of (stocks_from c.args.season.now n)) before) in
+    last_lists_few c.args.season.now left (length c.deref.result.now) c.stock.result (omega (arith, inside)) size stock c.requires.lists
 
 pub loop-index-preserved : goal.loop-index-preserved
 loop-index-preserved c =

@@ -1,4 +1,4 @@
-use Rattle.std.proofs.Common.{◌≡◌, ◌∙◌, sym, ap, pos, ◌*◌, ◌++◌, rules}
+use Rattle.std.proofs.Common.{◌∙◌, sym, ap, pos, ◌*◌, ◌++◌}
 use Rattle.clr_policy.specs.StockLists.{rows_of, with_more}
 use Rattle.clr_policy.proofs.Ends.{rows_more}
 use Rattle.clr_policy.proofs.values.rows_at_end.Goals as goal

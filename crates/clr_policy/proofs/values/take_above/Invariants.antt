@@ -1,4 +1,4 @@
-use Rattle.std.proofs.Common.{◌≡◌, ℕ, ◌<◌, ◌≤◌, length}
+use Rattle.std.proofs.Common.{◌≡◌, ℕ, ◌<◌, ◌≤◌}
 use Rattle.clr_policy.specs.StockLists.{at_place, chosen}
 use Rattle.clr_policy.proofs.values.take_above.Given as goal
 

@@ -1,20 +1,21 @@
-use Rattle.std.proofs.Common.{◌≡◌, ◌≤◌, ◌<◌, ◌+◌, ◌-◌, ◌*◌, suc, pos, sym, ap, ◌∙◌, subst, length, arith, rules, List, ℕ, mul-le-mul}
+use Rattle.std.proofs.Common.{◌≡◌, ◌≤◌, ◌<◌, ◌+◌, ◌*◌, sym, ap, ◌∙◌, subst, length, arith, mul-le-mul}
 use Rattle.clr_average.proofs.Within.{within_more}
 use Rattle.std.proofs.lemmas.List.{length-map}
-use Rattle.clr_model.specs.JointWeek.{joint_base, joint_weighed}
+use Rattle.clr_model.specs.JointWeek.{joint_weighed}
 use Rattle.clr_model.specs.Revenue.{full_stocks}
 use Rattle.clr_model.proofs.JointFold.{joint_sum_by_stores_lem}
-use Rattle.clr_policy.specs.StockLists.{AllWithin, at_place, list_count, most_gain, place_of, reach_after}
+use Rattle.clr_model.specs.Stocks.{place_in}
+use Rattle.clr_policy.specs.StockLists.{AllWithin, at_place, most_gain, reach_after}
 use Rattle.clr_policy.proofs.Folds.{place_low, within_length, whole_reach}
 use Rattle.clr_policy.proofs.values.weigh_week.Goals as goal
 
 pub returns-clause-each : goal.returns-clause-each
 returns-clause-each g c stocks held =
-    let low : place_of (full_stocks c.args.season.now) stocks < length c.weigh_stores.new.values = subst (λ n. place_of (full_stocks c.args.season.now) stocks < n) (sym (c.weigh_stores.auto.values ∙ c.requires.size)) (place_low (full_stocks c.args.season.now) stocks held) in
-    let folds = joint_sum_by_stores_lem c.args.season.now c.args.week.done c.args.week.before c.args.week.rung stocks (λ rest. at_place c.args.values.now (place_of (full_stocks c.args.season.now) rest)) c.base_of_all.ensures.facts
+    let low : place_in (full_stocks c.args.season.now) stocks < length c.weigh_stores.new.values = subst (λ n. place_in (full_stocks c.args.season.now) stocks < n) (sym (c.weigh_stores.auto.values ∙ c.requires.size)) (place_low (full_stocks c.args.season.now) stocks held) in
+    let folds = joint_sum_by_stores_lem c.args.season.now c.args.week.done c.args.week.before c.args.week.rung stocks (λ rest. at_place c.args.values.now (place_in (full_stocks c.args.season.now) rest)) c.base_of_all.ensures.facts
     (within_length (full_stocks c.args.season.now) stocks held ∙ length-map c.args.season.now.stores (λ s. s.units)) c.requires.week.early c.requires.week.low c.requires.week.high in
-    c.divide_values.ensures.each (place_of (full_stocks c.args.season.now) stocks) low
-    ∙ (ap (λ n. g.R.Direction.quotient n c.base_of_all.result) (c.weigh_stores.ensures.each stocks held ∙ sym folds) ∙ ap (λ b. g.R.Direction.quotient (joint_weighed c.args.season.now c.args.week.done c.args.week.before c.args.week.rung stocks (λ demands rest. at_place c.args.values.now (place_of (full_stocks c.args.season.now) rest))) b) c.base_of_all.ensures.value)
+    c.divide_values.ensures.each (place_in (full_stocks c.args.season.now) stocks) low
+    ∙ (ap (λ n. g.R.Direction.quotient n c.base_of_all.result) (c.weigh_stores.ensures.each stocks held ∙ sym folds) ∙ ap (λ b. g.R.Direction.quotient (joint_weighed c.args.season.now c.args.week.done c.args.week.before c.args.week.rung stocks (λ demands rest. at_place c.args.values.now (place_in (full_stocks c.args.season.now) rest))) b) c.base_of_all.ensures.value)
 
 pub returns-clause-within : goal.returns-clause-within
 returns-clause-within g c reach le all k lt =
