@@ -19,7 +19,7 @@ use Rattle.clr_model.specs.Fits.{fits}
 use Rattle.clr_model.specs.JointValue.{joint_low_at, joint_rung_at, joint_rung_value, joint_top_at, joint_value, joint_value_at}
 use Rattle.clr_model.specs.Revenue.{full_stocks}
 use Rattle.clr_model.proofs.JointBounds.{best_live}
-use Rattle.clr_storedp.proofs.Prefixes.{live_summary_of}
+use Rattle.clr_rows.proofs.Prefixes.{live_summary_of}
 use Rattle.clr_path.proofs.Lists.{get_or-numbers, length-numbers}
 use Rattle.clr_model.specs.Stocks.{lists_of, stocks_at}
 use Rattle.clr_model.specs.Stocks.{all_stocks as all_units}

@@ -16,8 +16,8 @@ use Rattle.clr_model.specs.JointWeek.{joint_base, joint_weighed}
 use Rattle.clr_model.specs.Policies.{joint_demands}
 use Rattle.clr_model.specs.Revenue.{earn, full_stocks, of_store, stocks_left, sum_stores}
 use Rattle.clr_model.proofs.JointFold.{joint_sum_by_stores_lem}
-use Rattle.clr_storedp.specs.Rows.{AreRows, AreWithin, row_at}
-use Rattle.clr_storedp.proofs.Lists.{get_or-row_at}
+use Rattle.clr_rows.specs.Rows.{AreRows, AreWithin, row_at}
+use Rattle.clr_rows.proofs.Lists.{get_or-row_at}
 use Rattle.clr_joint.specs.BySummary.{average_into, by_place, summary_value}
 use Rattle.clr_joint.specs.Folds.{AreFolded, fold_reach}
 use Rattle.clr_model.specs.Stocks.{lists_of, place_in, stocks_at}

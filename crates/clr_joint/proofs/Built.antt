@@ -18,9 +18,9 @@ use Rattle.clr_season.specs.Season.{Season, IsSeason}
 use Rattle.clr_model.specs.Fits.{fits}
 use Rattle.clr_model.specs.JointValue.{joint_low, joint_rung_at, joint_table, joint_top, joint_value_at}
 use Rattle.clr_model.specs.Revenue.{cent, full_stocks}
-use Rattle.clr_storedp.specs.Rows.{IsInside, WeekRows, place_of, row_at, week_at}
-use Rattle.clr_storedp.proofs.Lists.{got_inside}
-use Rattle.clr_storedp.proofs.TableLemmas.{get_or-numbers}
+use Rattle.clr_rows.specs.Rows.{IsInside, WeekRows, place_of, row_at, week_at}
+use Rattle.clr_rows.proofs.Lists.{got_inside}
+use Rattle.clr_rows.proofs.Places.{get_or-numbers}
 use Rattle.clr_joint.specs.Rows.{IsKept, entries_of}
 use Rattle.clr_model.specs.Stocks.{all_stocks, lists_of, place_in, stocks_at}
 use Rattle.clr_joint.specs.Tables.{Entry, HasStocks, IsEnclosed, IsJointOf, IsNearBest, at_stocks, choices_of, is_at, opening}

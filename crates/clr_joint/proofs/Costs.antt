@@ -1,19 +1,34 @@
 -- What all stores pay for relabelling stands outside the average.
-use Rattle.std.proofs.Common.{◌≡◌, ℕ, zero, suc, ◌*◌, ◌≤◌, ◌<◌, ℤ, pos, neg_ℤ, ◌+ℤ◌, ◌*ℤ◌, List, get_or, length, refl, ap, ◌∙◌, arith}
+use Rattle.std.proofs.Common.{◌≡◌, ℕ, sym, min, ◌-ℤ◌, zero, suc, ◌*◌, ◌≤◌, ◌<◌, ℤ, pos, neg_ℤ, ◌+ℤ◌, ◌*ℤ◌, List, get_or, length, refl, ap, ◌∙◌, arith}
 use lib.IntN.{*ℤ_comm}
 use Rattle.clr_num.specs.Direction.{IsDirection}
 use Rattle.clr_num.specs.Sums.{sum_of}
+use Rattle.clr_rules.specs.Rules.{price}
 use Rattle.clr_season.specs.Season.{Season, IsSeason}
 use Rattle.clr_average.proofs.Ring.{linear, mul_add}
 use Rattle.clr_average.proofs.Sums.{sum_over-same, sum_over-add, sum_over-scale_right}
 use Rattle.clr_model.specs.Expected.{week_chance}
 use Rattle.clr_model.specs.JointWeek.{joint_base, joint_weighed}
 use Rattle.clr_model.specs.Policies.{joint_demands}
-use Rattle.clr_model.specs.Revenue.{cent, earn, fee, of_store, stocks_left, sum_stores}
+use Rattle.clr_model.specs.Revenue.{cent, earn, fee, of_store, stocks_left, sum_stores, week_cents}
+use Rattle.clr_model.proofs.Rows.{turn}
 use Rattle.clr_model.proofs.Sums.{sum_of-add, sum_of-same}
 use Rattle.clr_model.proofs.Weeks.{week_mass}
-use Rattle.clr_storedp.proofs.Fees.{earn_apart}
 use Rattle.clr_joint.specs.BySummary.{costs}
+use Rattle.clr_joint.proofs.Folds.{no_fee}
+
+-- what a store earns, less what it pays
+earn_apart : (season : Season) (store before rung stock demand : ℕ) → earn season store before rung stock demand ≡ earn season store rung rung stock demand +ℤ neg_ℤ (pos (cent * fee season store before rung))
+unfolding week_cents
+earn_apart season store before rung stock demand =
+    let sold : ℕ = price season.rules rung * min stock demand in
+    let first : pos cent *ℤ (pos sold -ℤ pos (fee season store before rung)) ≡ pos cent *ℤ pos sold +ℤ pos cent *ℤ neg_ℤ (pos (fee season store before rung)) = mul_add (pos cent) (pos sold) (neg_ℤ (pos (fee season store before rung))) in
+    let turned : pos cent *ℤ neg_ℤ (pos (fee season store before rung)) ≡ neg_ℤ (pos (cent * fee season store before rung)) = turn cent (fee season store before rung) in
+    let free : pos sold -ℤ pos (fee season store rung rung) ≡ pos sold = ap (λ n. pos sold -ℤ pos n) (no_fee season store rung) ∙ nothing (pos sold) in
+    first ∙ (ap (λ t. pos cent *ℤ pos sold +ℤ t) turned ∙ ap (λ t. pos cent *ℤ t +ℤ neg_ℤ (pos (cent * fee season store before rung))) (sym free))
+  where
+    nothing : (z : ℤ) → z -ℤ pos 0 ≡ z
+    nothing z = omega (arith, linear)
 
 sum_of-neg : (n : ℕ) (f : ℕ → ℤ) → sum_of n (λ i. neg_ℤ (f i)) ≡ neg_ℤ (sum_of n f)
 sum_of-neg zero f = refl

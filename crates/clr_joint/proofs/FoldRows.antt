@@ -9,7 +9,7 @@ use Rattle.clr_average.specs.Average.{IsWithin}
 use Rattle.clr_average.proofs.Sums.{sum_over-same}
 use Rattle.clr_model.specs.JointFold.{fold_stores}
 use Rattle.clr_model.specs.Revenue.{earn, full_stocks, left}
-use Rattle.clr_storedp.specs.Rows.{AreWithin}
+use Rattle.clr_rows.specs.Rows.{AreWithin}
 use Rattle.clr_joint.specs.Folds.{AreFolded, fold_item, fold_reach, last_units}
 use Rattle.clr_model.specs.Stocks.{lists_of, place_in, stocks_at}
 use Rattle.clr_joint.proofs.Grid.{last_units_more, last_units_none, length-full_stocks, length-stocks_at}

@@ -11,14 +11,14 @@ use Rattle.clr_average.proofs.Ring.{linear}
 use Rattle.clr_average.proofs.Sums.{sum_over-same}
 use Rattle.clr_average.proofs.Within.{within_more}
 use Rattle.clr_model.specs.Revenue.{cent, earn, fee, week_cents}
-use Rattle.clr_storedp.specs.Rows.{AreWithin}
+use Rattle.clr_rows.specs.Rows.{AreWithin}
 use Rattle.clr_joint.specs.Folds.{IsCell, cell_sum, fold_item, fold_reach}
 use Rattle.clr_joint.proofs.Cells.{whole_within}
 use Rattle.clr_joint.proofs.Limits.{reach_more}
 
 -- ---- what a store earns
 
-no_fee : (season : Season) (store rung : ℕ) → fee season store rung rung ≡ 0
+pub no_fee : (season : Season) (store rung : ℕ) → fee season store rung rung ≡ 0
 no_fee season store rung = ap (λ b. cond b 0 (store_at season store).relabel) (eq-eqb rung rung refl)
 
 earned_is : (season : Season) (store rung stock demand power unit : ℕ) → unit ≡ cent * price season.rules rung * power → earn season store rung rung stock demand *ℤ pos power ≡ pos (unit * min demand stock)

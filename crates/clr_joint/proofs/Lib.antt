@@ -6,7 +6,6 @@ pub mod FoldRows
 pub mod Averages
 pub mod Costs
 pub mod Values
-pub mod Rungs
 pub mod Ends
 pub mod Sizes
 pub mod WeekRows

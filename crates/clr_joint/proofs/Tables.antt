@@ -18,10 +18,10 @@ use Rattle.clr_season.specs.Season.{Season}
 use Rattle.clr_average.specs.Average.{IsWithin}
 use Rattle.clr_model.specs.JointValue.{joint_low_at, joint_rung_at, joint_top_at, joint_value_at}
 use Rattle.clr_model.specs.Revenue.{full_stocks}
-use Rattle.clr_storedp.specs.Rows.{IsInside, WeekRows, place_of, row_at, week_at}
-use Rattle.clr_storedp.specs.Weeks.{live_week}
-use Rattle.clr_storedp.proofs.Lists.{got_inside, length-row_at}
-use Rattle.clr_storedp.proofs.TableLemmas.{among_any, is_pair, length-numbers, place_found, row_inside, row_is, row_none, row_small}
+use Rattle.clr_rows.specs.Rows.{IsInside, WeekRows, place_of, row_at, week_at}
+use Rattle.clr_rows.specs.Summaries.{live_week}
+use Rattle.clr_rows.proofs.Lists.{got_inside, length-row_at}
+use Rattle.clr_rows.proofs.Places.{among_any, is_pair, length-numbers, place_found, row_inside, row_is, row_none, row_small}
 use Rattle.clr_joint.specs.BySummary.{by_place, summary_choice, summary_value}
 use Rattle.clr_joint.specs.Rows.{IsKept, entries_of, entry_of}
 use Rattle.clr_model.specs.Stocks.{all_stocks, lists_of, place_in, stocks_at}
@@ -124,7 +124,7 @@ module _ (div : ℤ → ℕ → ℤ) (season : Season) (pairs : List (ℕ × Sum
       let back : season.rules.weeks - (season.rules.weeks - done) ≡ done = omega arith in
       subst₂ (λ n k. IsWeek div season n (get_or weeks k (record { values = []; choices = [] }))) back at (are.each (season.rules.weeks - done) (omega arith))
 
-  listed : (done : ℕ) → live_week season done ≡ at_week done pairs
+  listed : (done : ℕ) → live_week season.rules done ≡ at_week done pairs
   listed done = ap (at_week done) (sym is)
 
   pub inside_is : IsInside pairs (lists_of (full_stocks season)) weeks
@@ -148,7 +148,7 @@ module _ (div : ℤ → ℕ → ℤ) (season : Season) (pairs : List (ℕ × Sum
       subst (λ (ps : List (ℕ × Summary)). IsAmong ps (length prefix) (summary season.rules prefix)) (sym is)
       (((live_pairs_lem season.rules book).pairs (length prefix) (summary season.rules prefix)).1 (live-length season.rules prefix live, (prefix, refl, live, refl)))
 
-  at_place : (prefix : List ℕ) → is_live season.rules prefix ≡ true → slice_get (live_week season (length prefix)) (place_of (at_week (length prefix) pairs) (summary season.rules prefix)) ≡ Some (summary season.rules prefix)
+  at_place : (prefix : List ℕ) → is_live season.rules prefix ≡ true → slice_get (live_week season.rules (length prefix)) (place_of (at_week (length prefix) pairs) (summary season.rules prefix)) ≡ Some (summary season.rules prefix)
   at_place prefix live =
       ap (λ (l : List Summary). slice_get l (place_of (at_week (length prefix) pairs) (summary season.rules prefix))) (listed (length prefix))
       ∙ place_found (at_week (length prefix) pairs) (summary season.rules prefix) (among_live prefix live)
@@ -156,14 +156,14 @@ module _ (div : ℤ → ℕ → ℤ) (season : Season) (pairs : List (ℕ × Sum
   pub value_row : (prefix : List ℕ) → is_live season.rules prefix ≡ true →
       row_at (lists_of (full_stocks season)) (week_at weeks (length prefix)).values (place_of (at_week (length prefix) pairs) (summary season.rules prefix)) ≡ map (λ k. joint_value_at div season prefix (stocks_at (full_stocks season) k)) (numbers 0 (lists_of (full_stocks season)))
   value_row prefix live =
-      row_is (pos 0) (lists_of (full_stocks season)) (live_week season (length prefix)) (by_place season (summary_value div season (length prefix))) (week_at weeks (length prefix)).values (place_of (at_week (length prefix) pairs) (summary season.rules prefix)) (summary season.rules prefix)
+      row_is (pos 0) (lists_of (full_stocks season)) (live_week season.rules (length prefix)) (by_place season (summary_value div season (length prefix))) (week_at weeks (length prefix)).values (place_of (at_week (length prefix) pairs) (summary season.rules prefix)) (summary season.rules prefix)
       (week_is_at (length prefix) (live-length season.rules prefix live)).values (at_place prefix live)
       ∙ ap (λ (f : ℕ → ℤ). map f (numbers 0 (lists_of (full_stocks season)))) (fun_ext (λ k. value_at_prefix div season prefix (stocks_at (full_stocks season) k) live))
 
   pub choice_row : (prefix : List ℕ) → is_live season.rules prefix ≡ true → length prefix < season.rules.weeks →
       row_at (lists_of (full_stocks season)) (week_at weeks (length prefix)).choices (place_of (at_week (length prefix) pairs) (summary season.rules prefix)) ≡ map (λ k. summary_choice div season (length prefix) (summary season.rules prefix) (stocks_at (full_stocks season) k)) (numbers 0 (lists_of (full_stocks season)))
   choice_row prefix live early =
-      row_is 0 (lists_of (full_stocks season)) (live_week season (length prefix)) (by_place season (summary_choice div season (length prefix))) (week_at weeks (length prefix)).choices (place_of (at_week (length prefix) pairs) (summary season.rules prefix)) (summary season.rules prefix)
+      row_is 0 (lists_of (full_stocks season)) (live_week season.rules (length prefix)) (by_place season (summary_choice div season (length prefix))) (week_at weeks (length prefix)).choices (place_of (at_week (length prefix) pairs) (summary season.rules prefix)) (summary season.rules prefix)
       ((week_is_at (length prefix) (live-length season.rules prefix live)).choices early) (at_place prefix live)
 
   pub no_choices : (prefix : List ℕ) → is_live season.rules prefix ≡ true → season.rules.weeks ≤ length prefix →

@@ -1,5 +1,5 @@
 -- A summary's value from the values after the week, over the rungs that lead to a live summary.
-use Rattle.std.proofs.Common.{◌≡◌, ℕ, ◌-◌, ◌^◌, ◌<◌, ◌≤◌, ℤ, true, sym, ap, ap₂, ◌∙◌, subst, arith, suc, List, [], ◌∷◌, ◌++◌, length, le_trans}
+use Rattle.std.proofs.Common.{◌≡◌, ℕ, ◌-◌, ◌^◌, ◌<◌, ◌≤◌, ℤ, neg_ℤ, true, sym, ap, ap₂, ◌∙◌, subst, arith, suc, List, [], ◌∷◌, ◌++◌, length, le_trans}
 use mathlib.Core.Path.{fun_ext}
 use Rattle.std.proofs.Math.Nat.{pow-le-pow_right, pow-zero}
 use Rattle.std.specs.List.{AllByRecursion}
@@ -17,14 +17,17 @@ use Rattle.clr_season.specs.Season.{Season, IsSeason}
 use Rattle.clr_model.specs.JointLaws.{SameJointValue}
 use Rattle.clr_model.specs.JointValue.{joint_rung_at, joint_rung_value, joint_value, joint_value_at}
 use Rattle.clr_model.specs.JointWeek.{joint_base, joint_weighed}
+use Rattle.clr_model.specs.Revenue.{full_stocks}
+use Rattle.clr_model.specs.Stocks.{stocks_at}
 use Rattle.clr_model.proofs.Abiding.{length_more}
 use Rattle.clr_model.proofs.Best.{best_value-same, first_best-same}
 use Rattle.clr_model.proofs.JointBySummary.{joint_value_by_summary_lem}
 use Rattle.clr_model.proofs.Sums.{All-imply}
-use Rattle.clr_storedp.specs.BySummary.{best_value, leads, summary_prefix}
-use Rattle.clr_storedp.proofs.Prefixes.{IsPrefixOf, live_summary_of, prefix_is}
-use Rattle.clr_storedp.proofs.WeekValues.{best_some, filter-same, one_more}
-use Rattle.clr_joint.specs.BySummary.{choice_so_far, lead_value, summary_choice, summary_value, value_so_far}
+use Rattle.clr_rows.specs.Leads.{best_value, choice_so_far, lead_value, value_so_far}
+use Rattle.clr_rows.specs.Summaries.{summary_prefix}
+use Rattle.clr_rows.proofs.Bests.{best_some}
+use Rattle.clr_rows.proofs.Prefixes.{IsPrefixOf, live_summary_of, one_more, prefix_is, rungs_lead, some_leads}
+use Rattle.clr_joint.specs.BySummary.{average_into, by_place, costs, summary_choice, summary_value}
 use Rattle.clr_joint.proofs.Costs.{average_apart}
 
 -- ---- a summary's value is that of each live prefix that has it
@@ -44,7 +47,10 @@ choice_at_prefix season prefix stocks live early =
 
 -- ---- by the rungs that lead on
 
-module _ (leans : ℤ → ℤ → Type 0) (div : ℤ → ℕ → ℤ) (laws : IsDirection leans div) (season : Season) (done : ℕ) (stocks : List ℕ) (s : Summary) (is : IsSeason season) (early : done < season.rules.weeks) (live : is_live_summary season.rules done s ≡ true) where
+module _ (leans : ℤ → ℤ → Type 0) (div : ℤ → ℕ → ℤ) (laws : IsDirection leans div) (season : Season) (done : ℕ) (x : ℕ) (s : Summary) (is : IsSeason season) (early : done < season.rules.weeks) (live : is_live_summary season.rules done s ≡ true) where
+  abbrev stocks : List ℕ
+  stocks = stocks_at (full_stocks season) x
+
   abbrev prefix : List ℕ
   prefix = summary_prefix season.rules done s
 
@@ -58,7 +64,7 @@ module _ (leans : ℤ → ℤ → Type 0) (div : ℤ → ℕ → ℤ) (laws : Is
   abbrev gives : ℕ → ℤ
   gives rung = joint_rung_value div season prefix rung stocks (λ rest. joint_value div season (season.rules.weeks - suc (length prefix)) (prefix ++ rung ∷ []) rest)
 
-  given : (rung : ℕ) → is_live season.rules (prefix ++ rung ∷ []) ≡ true → gives rung ≡ lead_value div season done s stocks rung
+  given : (rung : ℕ) → is_live season.rules (prefix ++ rung ∷ []) ≡ true → gives rung ≡ lead_value season.rules (by_place season (average_into div season done)) (λ before rung. neg_ℤ (costs season before rung)) s x rung
   given rung next =
       let range = live-rung season.rules prefix rung next in
       let long : length (prefix ++ rung ∷ []) ≡ suc done = length_more prefix rung ∙ ap suc of.long in
@@ -70,26 +76,17 @@ module _ (leans : ℤ → ℤ → Type 0) (div : ℤ → ℕ → ℤ) (laws : Is
       ∙ (ap₂ (λ n k. div (joint_weighed season n k rung stocks (λ week rest. summary_value div season (suc done) (next_summary season.rules s rung) rest)) (joint_base season)) of.long (ap (λ t. t.last) of.same)
       ∙ average_apart leans div laws season done s.last rung stocks (summary_value div season (suc done) (next_summary season.rules s rung)) is base_some early range.0 range.1)
 
-  lists : live_rungs season.rules prefix ≡ leads season.rules done s (length season.rules.prices)
-  lists = filter-same (λ rung. is_live season.rules (prefix ++ rung ∷ [])) (leads_at season.rules done s) (rungs season.rules)
-      (λ rung. sym (leads-live season.rules done s prefix rung (record { weeks = of.long; keeps = live-keeps season.rules prefix of.live; same = of.same })))
-
-  some : live_rungs season.rules prefix ≡ [] → ⊥
-  some e =
-      let (rung, next) = live-next season.rules prefix of.live (subst (λ n. n < season.rules.weeks) (sym of.long) early) in
-      All-live_rungs season.rules prefix (λ _. ⊥) rung next (subst (AllByRecursion (λ _. ⊥)) (sym e) tt)
-
-  agree : AllByRecursion (λ rung. gives rung ≡ lead_value div season done s stocks rung) (live_rungs season.rules prefix)
+  agree : AllByRecursion (λ rung. gives rung ≡ lead_value season.rules (by_place season (average_into div season done)) (λ before rung. neg_ℤ (costs season before rung)) s x rung) (live_rungs season.rules prefix)
   agree = All-imply (λ rung. is_live season.rules (prefix ++ rung ∷ []) ≡ true) _ (live_rungs season.rules prefix) given (All-filter (λ rung. is_live season.rules (prefix ++ rung ∷ [])) (rungs season.rules))
 
-  pub value_is : value_so_far div season done s (length season.rules.prices) stocks ≡ summary_value div season done s stocks
+  pub value_is : value_so_far season.rules done (by_place season (average_into div season done)) (λ before rung. neg_ℤ (costs season before rung)) s (length season.rules.prices) x ≡ summary_value div season done s stocks
   value_is =
       sym (ap (λ n. joint_value div season n prefix stocks) (one_more season.rules.weeks (length prefix) (subst (λ n. suc n ≤ season.rules.weeks) (sym of.long) early))
-      ∙ (best_value-same gives (lead_value div season done s stocks) 1 (live_rungs season.rules prefix) some agree
-      ∙ (best_some (lead_value div season done s stocks) (live_rungs season.rules prefix) some
-      ∙ ap (best_value (lead_value div season done s stocks)) lists)))
+      ∙ (best_value-same gives (lead_value season.rules (by_place season (average_into div season done)) (λ before rung. neg_ℤ (costs season before rung)) s x) 1 (live_rungs season.rules prefix) (some_leads season.rules done s prefix of early) agree
+      ∙ (best_some (lead_value season.rules (by_place season (average_into div season done)) (λ before rung. neg_ℤ (costs season before rung)) s x) (live_rungs season.rules prefix) (some_leads season.rules done s prefix of early)
+      ∙ ap (best_value (lead_value season.rules (by_place season (average_into div season done)) (λ before rung. neg_ℤ (costs season before rung)) s x)) (rungs_lead season.rules done s prefix of))))
 
-  pub choice_is : choice_so_far div season done s (length season.rules.prices) stocks ≡ summary_choice div season done s stocks
+  pub choice_is : choice_so_far season.rules done (by_place season (average_into div season done)) (λ before rung. neg_ℤ (costs season before rung)) s (length season.rules.prices) x ≡ summary_choice div season done s stocks
   choice_is =
-      sym ((first_best-same gives (lead_value div season done s stocks) 1 (live_rungs season.rules prefix) agree).0
-      ∙ ap (first_best (lead_value div season done s stocks) 1) lists)
+      sym ((first_best-same gives (lead_value season.rules (by_place season (average_into div season done)) (λ before rung. neg_ℤ (costs season before rung)) s x) 1 (live_rungs season.rules prefix) agree).0
+      ∙ ap (first_best (lead_value season.rules (by_place season (average_into div season done)) (λ before rung. neg_ℤ (costs season before rung)) s x) 1) (rungs_lead season.rules done s prefix of))

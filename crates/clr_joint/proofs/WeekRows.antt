@@ -1,8 +1,6 @@
 -- The rows of a week of all stores.
 use Rattle.std.proofs.Common.{◌≡◌, ℕ, zero, suc, ◌+◌, ◌-◌, ◌*◌, ◌^◌, ◌<◌, ◌≤◌, ℤ, pos, neg_ℤ, ◌+ℤ◌, ◌≤ℤ◌, true, List, [], ◌∷◌, ◌++◌, length, get_or, slice_get, Some, ap, sym, ◌∙◌, subst, arith, le_trans, length-append, below_more, mul-le-mul, mul-le-mul_left}
-use Rattle.std.proofs.Math.ListN.{get_or-append}
 use Rattle.std.proofs.Math.Nat.{pow-le-pow_right, pow-zero}
-use Rattle.std.proofs.lemmas.List.{get_or-append-add}
 use Rattle.std.proofs.lemmas.Option.{slice_get-get_or}
 use Rattle.clr_num.specs.Direction.{IsDirection}
 use Rattle.clr_num.specs.Sums.{sum_of}
@@ -17,11 +15,11 @@ use Rattle.clr_model.specs.JointWeek.{joint_base}
 use Rattle.clr_model.specs.Revenue.{full_stocks}
 use Rattle.clr_model.proofs.Sizes.{store_within}
 use Rattle.clr_model.proofs.Sums.{sum_of-le}
-use Rattle.clr_storedp.specs.BySummary.{summary_prefix}
-use Rattle.clr_storedp.specs.Rows.{AreRows, AreWithin, WeekRows}
-use Rattle.clr_storedp.specs.Weeks.{live_week}
-use Rattle.clr_storedp.proofs.Prefixes.{prefix_is}
-use Rattle.clr_storedp.proofs.WeekRows.{in_some_row, live_at}
+use Rattle.clr_rows.specs.Summaries.{live_week, summary_prefix}
+use Rattle.clr_rows.specs.Rows.{AreRows, AreWithin, WeekRows}
+use Rattle.clr_rows.proofs.Lists.{each_more}
+use Rattle.clr_rows.proofs.Prefixes.{prefix_is}
+use Rattle.clr_rows.proofs.WeekRows.{in_some_row, live_at}
 use Rattle.clr_joint.specs.BySummary.{by_place, summary_value}
 use Rattle.clr_model.specs.Stocks.{lists_of, stocks_at}
 use Rattle.clr_joint.specs.Weeks.{AreWeeks, IsWeek}
@@ -82,13 +80,13 @@ module _ (leans : ℤ → ℤ → Type 0) (div : ℤ → ℕ → ℤ) (laws : Is
       four : length season.stores ≤ 4 → length season.stores * 10000000000000 ≤ 4 * 10000000000000
       four le = omega (arith, le)
 
-  pub values_small : (done : ℕ) (items : List ℤ) → done ≤ season.rules.weeks → AreRows (pos 0) (lists_of (full_stocks season)) (live_week season done) (length (live_week season done)) (by_place season (summary_value div season done)) items → AreWithin 1000000000000000000 items
+  pub values_small : (done : ℕ) (items : List ℤ) → done ≤ season.rules.weeks → AreRows (pos 0) (lists_of (full_stocks season)) (live_week season.rules done) (length (live_week season.rules done)) (by_place season (summary_value div season done)) items → AreWithin 1000000000000000000 items
   values_small done items early are k lt =
-      let (place, x, inside, low, e) = in_some_row (lists_of (full_stocks season)) (length (live_week season done)) k (subst (λ n. k < n) are.size lt) in
-      let s : Summary = get_or (live_week season done) place (record { last = 1; count = 0; age = 1 }) in
-      let at : slice_get (live_week season done) place ≡ Some s = slice_get-get_or (live_week season done) place (record { last = 1; count = 0; age = 1 }) inside in
+      let (place, x, inside, low, e) = in_some_row (lists_of (full_stocks season)) (length (live_week season.rules done)) k (subst (λ n. k < n) are.size lt) in
+      let s : Summary = get_or (live_week season.rules done) place (record { last = 1; count = 0; age = 1 }) in
+      let at : slice_get (live_week season.rules done) place ≡ Some s = slice_get-get_or (live_week season.rules done) place (record { last = 1; count = 0; age = 1 }) inside in
       subst (IsWithin 1000000000000000000) (sym (ap (λ n. get_or items n (pos 0)) e ∙ are.each place x s inside at low))
-      (summary_within done s (stocks_at (full_stocks season) x) early (live_at season done place s early at) (held_at (full_stocks season) x low))
+      (summary_within done s (stocks_at (full_stocks season) x) early (live_at season.rules done place s early at) (held_at (full_stocks season) x low))
 
 -- ---- at the end of the season
 
@@ -103,11 +101,5 @@ end_is div season s stocks live =
 pub weeks_more : (div : ℤ → ℕ → ℤ) (season : Season) (count : ℕ) (weeks : List WeekRows) (week : WeekRows) → AreWeeks div season count weeks → IsWeek div season (season.rules.weeks - count) week → AreWeeks div season (count + 1) (weeks ++ week ∷ [])
 weeks_more div season count weeks week are here = record {
   size = length-append weeks (week ∷ []) ∙ ap (λ n. n + 1) are.size;
-  each = λ back lt. below_more (λ k. IsWeek div season (season.rules.weeks - k) (get_or (weeks ++ week ∷ []) k (record { values = []; choices = [] }))) count
-      (λ k h. subst (IsWeek div season (season.rules.weeks - k)) (sym (get_or-append weeks (week ∷ []) (record { values = []; choices = [] }) k (omega (arith, h, are.size)))) (are.each k h))
-      (subst (IsWeek div season (season.rules.weeks - count)) (sym (at_end (record { values = []; choices = [] }))) here)
-      back lt;
+  each = each_more (λ k. IsWeek div season (season.rules.weeks - k)) weeks week (record { values = []; choices = [] }) count are.size are.each here;
 }
-  where
-    at_end : (d : WeekRows) → get_or (weeks ++ week ∷ []) count d ≡ week
-    at_end d = let none : length weeks + 0 ≡ count = omega (arith, are.size) in ap (λ n. get_or (weeks ++ week ∷ []) n d) (sym none) ∙ get_or-append-add weeks (week ∷ []) 0 d

@@ -1,14 +1,14 @@
 -- The values of all stores together by summary, through a prefix that has it.
-use Rattle.std.specs.Prelude.{ℕ, suc, ◌*◌, ◌-◌, ℤ, pos, ◌+ℤ◌, neg_ℤ, List, [], ◌∷◌, ◌++◌, length}
+use Rattle.std.specs.Prelude.{ℕ, suc, ◌*◌, ◌-◌, ℤ, pos, List, [], ◌∷◌, ◌++◌, length}
 use Rattle.clr_num.specs.Sums.{first_best}
 use Rattle.clr_rules.specs.declared.season_rules.Summary.{Summary}
-use Rattle.clr_rules.specs.Rules.{live_rungs, next_summary}
+use Rattle.clr_rules.specs.Rules.{live_rungs}
 use Rattle.clr_season.specs.Season.{Season}
 use Rattle.clr_model.specs.JointValue.{joint_rung_value, joint_value, joint_value_at}
 use Rattle.clr_model.specs.JointWeek.{joint_weighed, joint_base}
 use Rattle.clr_model.specs.Revenue.{cent, fee, full_stocks, sum_stores}
-use Rattle.clr_storedp.specs.BySummary.{best_value, leads, summary_prefix}
 use Rattle.clr_model.specs.Stocks.{stocks_at}
+use Rattle.clr_rows.specs.Summaries.{summary_prefix}
 
 -- the value after a prefix with a summary, at a list of stocks
 abbrev pub summary_value : (ℤ → ℕ → ℤ) → Season → ℕ → Summary → List ℕ → ℤ
@@ -26,17 +26,6 @@ average_into div season done s stocks = div (joint_weighed season done s.last s.
 -- what all stores pay for a rung after another
 abbrev pub costs : Season → ℕ → ℕ → ℤ
 costs season before rung = sum_stores season (λ store. pos (cent * fee season store before rung))
-
--- what a rung gives after a summary
-abbrev pub lead_value : (ℤ → ℕ → ℤ) → Season → ℕ → Summary → List ℕ → ℕ → ℤ
-lead_value div season done s stocks rung = average_into div season done (next_summary season.rules s rung) stocks +ℤ neg_ℤ (costs season s.last rung)
-
--- the value and the choice by the first rungs, up to a number
-abbrev pub value_so_far : (ℤ → ℕ → ℤ) → Season → ℕ → Summary → ℕ → List ℕ → ℤ
-value_so_far div season done s count stocks = best_value (lead_value div season done s stocks) (leads season.rules done s count)
-
-abbrev pub choice_so_far : (ℤ → ℕ → ℤ) → Season → ℕ → Summary → ℕ → List ℕ → ℕ
-choice_so_far div season done s count stocks = first_best (lead_value div season done s stocks) 1 (leads season.rules done s count)
 
 -- ---- by the place of a list of stocks
 

@@ -3,7 +3,7 @@ use Rattle.std.specs.Prelude.{◌≡◌, ℕ, suc, ◌+◌, ◌-◌, ◌*◌, �
 use Rattle.clr_num.specs.Sums.{sum_of}
 use Rattle.clr_season.specs.Season.{Season}
 use Rattle.clr_model.specs.Revenue.{cent, salvage_cents}
-use Rattle.clr_storedp.specs.Rows.{AreWithin}
+use Rattle.clr_rows.specs.Rows.{AreWithin}
 use Rattle.clr_joint.specs.Folds.{last_units}
 use Rattle.clr_model.specs.Stocks.{lists_of, stocks_at}
 

@@ -5,7 +5,7 @@ use Rattle.clr_num.specs.Sums.{sum_over}
 use Rattle.clr_season.specs.Season.{Season, demands, store_at, weight}
 use Rattle.clr_model.specs.JointFold.{fold_stores}
 use Rattle.clr_model.specs.Revenue.{earn, full_stocks}
-use Rattle.clr_storedp.specs.Rows.{AreWithin}
+use Rattle.clr_rows.specs.Rows.{AreWithin}
 use Rattle.clr_model.specs.Stocks.{lists_of, place_in, stocks_at}
 
 -- the first weights times (the item of what their demands leave and what the sold units earn), where a unit of stock lies a stride apart

@@ -3,7 +3,7 @@ use Rattle.std.specs.Prelude.{◌≡◌, ℕ, ◌<◌, ◌≤◌, List, length, 
 use Rattle.std.specs.List.{zip}
 use Rattle.clr_rules.specs.declared.season_rules.Summary.{Summary}
 use Rattle.clr_rules.specs.LiveSummaries.{at_week}
-use Rattle.clr_storedp.specs.Rows.{IsInside, WeekRows, place_of, row_at, week_at}
+use Rattle.clr_rows.specs.Rows.{IsInside, WeekRows, place_of, row_at, week_at}
 use Rattle.clr_model.specs.Stocks.{all_stocks, lists_of}
 use Rattle.clr_joint.specs.Tables.{Entry}
 

@@ -2,15 +2,15 @@
 use Rattle.std.specs.Prelude.{◌≡◌, ℕ, ◌-◌, ◌<◌, ℤ, pos, List, [], length, get_or}
 use Rattle.clr_season.specs.Season.{Season}
 use Rattle.clr_model.specs.Revenue.{full_stocks}
-use Rattle.clr_storedp.specs.Rows.{AreRows, AreWithin, WeekRows}
-use Rattle.clr_storedp.specs.Weeks.{live_week}
+use Rattle.clr_rows.specs.Rows.{AreRows, AreWithin, WeekRows}
+use Rattle.clr_rows.specs.Summaries.{live_week}
 use Rattle.clr_joint.specs.BySummary.{by_place, summary_choice, summary_value}
 use Rattle.clr_model.specs.Stocks.{lists_of}
 
 -- The values at each live summary after so many weeks, and the choices where a week is to come.
 pub record IsWeek (div : ℤ → ℕ → ℤ) (season : Season) (done : ℕ) (week : WeekRows) : Type 0 where
-  pub values : AreRows (pos 0) (lists_of (full_stocks season)) (live_week season done) (length (live_week season done)) (by_place season (summary_value div season done)) week.values
-  pub choices : done < season.rules.weeks → AreRows 0 (lists_of (full_stocks season)) (live_week season done) (length (live_week season done)) (by_place season (summary_choice div season done)) week.choices
+  pub values : AreRows (pos 0) (lists_of (full_stocks season)) (live_week season.rules done) (length (live_week season.rules done)) (by_place season (summary_value div season done)) week.values
+  pub choices : done < season.rules.weeks → AreRows 0 (lists_of (full_stocks season)) (live_week season.rules done) (length (live_week season.rules done)) (by_place season (summary_choice div season done)) week.choices
   pub last : done ≡ season.rules.weeks → week.choices ≡ []
   pub small : AreWithin 1000000000000000000 week.values
 

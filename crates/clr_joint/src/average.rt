@@ -5,15 +5,15 @@ ghost use Rattle.clr_model.specs.Fits.{fits};
 ghost use Rattle.clr_model.specs.JointWeek.{joint_base, joint_weighed};
 ghost use Rattle.clr_model.specs.Revenue.{full_stocks};
 ghost use Rattle.clr_season.specs.Season.{IsSeason};
-ghost use Rattle.clr_storedp.specs.Rows.{AreRows, AreWithin};
-ghost use Rattle.clr_storedp.specs.Weeks.{live_week};
+ghost use Rattle.clr_rows.specs.Rows.{AreRows, AreWithin};
+ghost use Rattle.clr_rows.specs.Summaries.{live_week};
 ghost use Rattle.std.specs.Prelude.{◌≡◌, ℕ, suc, ◌<◌, ◌≤◌, ◌+◌, ◌*◌, ℤ, pos, length, get_or, IfOk, IsTrue};
 
 use crate::fold::fold_row;
 use clr_num::{Direction, Divisor};
+use clr_rows::row_of;
 use clr_rules::Summary;
 use clr_season::Season;
-use clr_storedp::row_of;
 use std::alloc::{AllocError, Global};
 
 /// The base to the number of stores: what the chances of a week sum to.
@@ -70,7 +70,7 @@ pub fn average_rows<R: Direction>(
     requires fits { IsTrue (fits season.now) }
     requires early { done < season.now.rules.weeks }
     requires width { width ≡ lists_of (full_stocks season.now) }
-    requires list { list.now ≡ live_week season.now (suc done) }
+    requires list { list.now ≡ live_week season.now.rules (suc done) }
     requires after { AreRows (pos 0) width list.now (length list.now) (by_place season.now (summary_value R.quotient season.now (suc done))) after.now }
     requires within { AreWithin 1000000000000000000 after.now }
     ensures rows { IfOk result (λ rows. AreRows (pos 0) width list.now (length list.now) (by_place season.now (average_into R.quotient season.now done)) rows.items) }

@@ -1,17 +1,18 @@
 // The greatest over the live rungs, and the least rung that attains it.
 ghost use Rattle.clr_average.specs.Average.{IsWithin};
-ghost use Rattle.clr_joint.specs.BySummary.{average_into, by_place, choice_so_far, costs, summary_choice, summary_value, value_so_far};
+ghost use Rattle.clr_joint.specs.BySummary.{average_into, by_place, costs, summary_choice, summary_value};
 ghost use Rattle.clr_model.specs.Stocks.{lists_of};
 ghost use Rattle.clr_rules.specs.LiveSummaries.{at_week, is_live_summary, live_pairs};
 ghost use Rattle.clr_model.specs.Revenue.{full_stocks};
-ghost use Rattle.clr_storedp.specs.Rows.{AreRows, AreWithin};
+ghost use Rattle.clr_rows.specs.Leads.{choice_so_far, value_so_far};
+ghost use Rattle.clr_rows.specs.Rows.{AreRows, AreWithin};
 ghost use Rattle.std.specs.Prelude.{◌≡◌, ℕ, suc, ◌<◌, ◌≤◌, ◌-◌, ℤ, pos, neg_ℤ, length, get_or, EachIndex, IsTrue};
 
 use clr_model::relabelling;
 use clr_num::Direction;
+use clr_rows::{LOWEST, lead, raise_row, row_of};
 use clr_rules::{Live, Summary};
 use clr_season::Season;
-use clr_storedp::{LOWEST, lead, raise_row, row_of};
 
 /// What all stores together pay for a rung after another.
 fn cost_of_all(season: &Season, before: u32, rung: u32) -> u64
@@ -52,10 +53,10 @@ fn try_rung<R: Direction>(
     requires same { length choices.old ≡ length values.old }
     requires averages { AreRows (pos 0) (length values.old) (at_week (suc done) live.now) (length (at_week (suc done) live.now)) (by_place season.now (average_into R.quotient season.now done)) averages.now }
     requires within { AreWithin 2000000000000000000 averages.now }
-    requires values { EachIndex values.old (λ x. get_or values.old x (pos 0) ≡ by_place season.now (λ s. value_so_far R.quotient season.now done s (rung - 1)) s x) }
-    requires choices { EachIndex values.old (λ x. get_or choices.old x 0 ≡ by_place season.now (λ s. choice_so_far R.quotient season.now done s (rung - 1)) s x) }
-    ensures values { EachIndex values.new (λ x. get_or values.new x (pos 0) ≡ by_place season.now (λ s. value_so_far R.quotient season.now done s rung) s x) }
-    ensures choices { EachIndex values.new (λ x. get_or choices.new x 0 ≡ by_place season.now (λ s. choice_so_far R.quotient season.now done s rung) s x) }
+    requires values { EachIndex values.old (λ x. get_or values.old x (pos 0) ≡ value_so_far season.now.rules done (by_place season.now (average_into R.quotient season.now done)) (λ before rung. neg_ℤ (costs season.now before rung)) s (rung - 1) x) }
+    requires choices { EachIndex values.old (λ x. get_or choices.old x 0 ≡ choice_so_far season.now.rules done (by_place season.now (average_into R.quotient season.now done)) (λ before rung. neg_ℤ (costs season.now before rung)) s (rung - 1) x) }
+    ensures values { EachIndex values.new (λ x. get_or values.new x (pos 0) ≡ value_so_far season.now.rules done (by_place season.now (average_into R.quotient season.now done)) (λ before rung. neg_ℤ (costs season.now before rung)) s rung x) }
+    ensures choices { EachIndex values.new (λ x. get_or choices.new x 0 ≡ choice_so_far season.now.rules done (by_place season.now (average_into R.quotient season.now done)) (λ before rung. neg_ℤ (costs season.now before rung)) s rung x) }
 {
     match lead(season.rules(), live, done, s, rung) {
         Some(place) => {

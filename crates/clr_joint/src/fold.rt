@@ -4,7 +4,7 @@ ghost use Rattle.clr_joint.specs.Folds.{AreFolded, IsCell, cell_sum, fold_item, 
 ghost use Rattle.clr_model.specs.Stocks.{lists_of};
 ghost use Rattle.clr_model.specs.Fits.{fits};
 ghost use Rattle.clr_model.specs.Revenue.{full_stocks};
-ghost use Rattle.clr_storedp.specs.Rows.{AreWithin};
+ghost use Rattle.clr_rows.specs.Rows.{AreWithin};
 ghost use Rattle.std.specs.Prelude.{◌≡◌, ℕ, ◌<◌, ◌≤◌, ◌+◌, ◌-◌, ◌*◌, ◌^◌, ℤ, pos, ◌+ℤ◌, ◌*ℤ◌, length, get_or, IfOk, IsTrue};
 
 use clr_model::CENT;

@@ -10,14 +10,14 @@ ghost use Rattle.clr_rules.specs.FirstPath.{SomePathObeys};
 ghost use Rattle.clr_rules.specs.LiveSummaries.{IsAmong, live_pairs};
 ghost use Rattle.clr_rules.specs.Rules.{summary};
 ghost use Rattle.clr_season.specs.Season.{IsSeason};
-ghost use Rattle.clr_storedp.specs.Rows.{row_at, week_at};
+ghost use Rattle.clr_rows.specs.Rows.{row_at, week_at};
 ghost use Rattle.std.specs.Prelude.{◌≡◌, ℕ, ◌+◌, ◌-◌, ◌*◌, ◌<◌, ◌≤◌, ◌^◌, ℤ, pos, ◌+ℤ◌, ◌≤ℤ◌, [], length, get_or, IfOk, IsTrue};
 
-use crate::week::{Week, weeks};
+use crate::week::weeks;
 use clr_num::{Down, Up};
+use clr_rows::{Week, row_of};
 use clr_rules::{Live, Summary};
 use clr_season::Season;
-use clr_storedp::row_of;
 use std::alloc::{AllocError, Global};
 use std::marker::Model;
 

@@ -6,50 +6,18 @@ ghost use Rattle.clr_model.specs.Fits.{fits};
 ghost use Rattle.clr_model.specs.Revenue.{full_stocks};
 ghost use Rattle.clr_rules.specs.LiveSummaries.{live_pairs};
 ghost use Rattle.clr_season.specs.Season.{IsSeason};
-ghost use Rattle.clr_storedp.specs.Rows.{AreRows, AreWithin};
-ghost use Rattle.clr_storedp.specs.Weeks.{live_week};
+ghost use Rattle.clr_rows.specs.Rows.{AreRows, AreWithin};
+ghost use Rattle.clr_rows.specs.Summaries.{live_week};
 ghost use Rattle.std.specs.Prelude.{◌≡◌, ℕ, suc, ◌<◌, ℤ, pos, length, IfOk, IsTrue};
 
 use crate::average::average_rows;
 use crate::choice::best_row;
 use crate::end::end_row;
 use clr_num::Direction;
+use clr_rows::{Week, week_list};
 use clr_rules::{Live, Summary};
 use clr_season::Season;
-use clr_storedp::week_list;
 use std::alloc::{AllocError, Global};
-use std::marker::Model;
-
-/// The rows of one week, one for each live summary: the values by lists of stocks and, where a week is to come, the choices.
-#[derive(Drop)]
-pub struct Week {
-    values: Vec<i64>,
-    choices: Vec<u8>,
-}
-
-impl Model for Week {
-    ghost use Rattle.clr_storedp.specs.Rows.{WeekRows};
-
-    ghost Value = { WeekRows };
-
-    ghost view = { λ w. record { values = w.values.items; choices = w.choices.items } };
-}
-
-impl Week {
-    /// The values, row after row.
-    pub fn values(&self) -> &[i64]
-        ensures { result.now ≡ self.now.values }
-    {
-        &self.values
-    }
-
-    /// The choices, row after row.
-    pub fn choices(&self) -> &[u8]
-        ensures { result.now ≡ self.now.choices }
-    {
-        &self.choices
-    }
-}
 
 /// The rows at the end of the season: what the stocks are worth, whatever the summary.
 fn end_week<R: Direction>(alloc: Global, season: &Season, live: &Live) -> Result<Week, AllocError>
@@ -64,10 +32,7 @@ fn end_week<R: Direction>(alloc: Global, season: &Season, live: &Live) -> Result
     for place in 0..list.len() {
         values.extend_from_slice(&row)?;
     }
-    Ok(Week {
-        values,
-        choices: Vec::new(alloc),
-    })
+    Ok(Week::new(values, Vec::new(alloc)))
 }
 
 /// The rows of a week from the averages of the week that follows.
@@ -83,8 +48,8 @@ fn best_rows<R: Direction>(
     requires early { done < season.now.rules.weeks }
     requires live { live.now ≡ live_pairs season.now.rules }
     requires width { width ≡ lists_of (full_stocks season.now) }
-    requires list { list.now ≡ live_week season.now done }
-    requires averages { AreRows (pos 0) width (live_week season.now (suc done)) (length (live_week season.now (suc done))) (by_place season.now (average_into R.quotient season.now done)) averages.now }
+    requires list { list.now ≡ live_week season.now.rules done }
+    requires averages { AreRows (pos 0) width (live_week season.now.rules (suc done)) (length (live_week season.now.rules (suc done))) (by_place season.now (average_into R.quotient season.now done)) averages.now }
     requires within { AreWithin 2000000000000000000 averages.now }
     ensures values { IfOk result (λ week. AreRows (pos 0) width list.now (length list.now) (by_place season.now (summary_value R.quotient season.now done)) week.values) }
     ensures choices { IfOk result (λ week. AreRows 0 width list.now (length list.now) (by_place season.now (summary_choice R.quotient season.now done)) week.choices) }
@@ -98,7 +63,7 @@ fn best_rows<R: Direction>(
         values.extend_from_slice(&row)?;
         choices.extend_from_slice(&chosen)?;
     }
-    Ok(Week { values, choices })
+    Ok(Week::new(values, choices))
 }
 
 /// The rows of a week from those of the week after it.

@@ -18,7 +18,7 @@ use Rattle.clr_model.proofs.Ladders.{path_on_ladder}
 use Rattle.clr_model.proofs.Sizes.{store_within}
 use Rattle.clr_model.proofs.Sums.{All-append}
 use Rattle.clr_storedp.specs.Tables.{Entry, IsTableOf, stocks, table_pairs, values_of}
-use Rattle.clr_storedp.proofs.TableLemmas.{get_or-numbers, length-numbers}
+use Rattle.clr_rows.proofs.Places.{get_or-numbers, length-numbers}
 use Rattle.clr_search.specs.Along.{IsPrefix}
 use Rattle.clr_search.specs.Settings.{Stands}
 

@@ -3,8 +3,9 @@ use Rattle.std.proofs.Common.{◌≡◌, ℕ, ◌+◌, ◌<◌, ℤ, pos, List, 
 use Rattle.clr_rules.specs.declared.season_rules.Summary.{Summary}
 use Rattle.clr_season.specs.Season.{Season}
 use Rattle.clr_model.specs.PathValue.{weighed}
-use Rattle.clr_storedp.specs.Rows.{AreAverages, row_at}
-use Rattle.clr_storedp.proofs.Lists.{rows_more, size_more}
+use Rattle.clr_rows.specs.Rows.{row_at}
+use Rattle.clr_storedp.specs.Rows.{AreAverages}
+use Rattle.clr_rows.proofs.Lists.{rows_more, size_more}
 
 pub averages_more : (div : ℤ → ℕ → ℤ) (season : Season) (store done width : ℕ) (list : List Summary) (after : List ℤ) (count : ℕ) (items row : List ℤ) → AreAverages div season store done width list after count items → length row ≡ width →
     ((s : Summary) → slice_get list count ≡ Some s → (stock : ℕ) → stock < width → get_or row stock (pos 0) ≡ div (weighed season store done s.last s.last stock (λ rest. get_or (row_at width after count) rest (pos 0))) season.base) →

@@ -1,11 +1,7 @@
-pub mod Lists
-pub mod Bests
-pub mod Leads
 pub mod Prefixes
 pub mod Fees
 pub mod WeekValues
 pub mod Sizes
-pub mod Rungs
 pub mod Averages
 pub mod WeekRows
 pub mod TableLemmas

@@ -20,7 +20,7 @@ use Rattle.clr_mult.specs.Tables.{Table, mult_at}
 use Rattle.clr_model.specs.Revenue.{full_stocks, of_store}
 use Rattle.clr_model.specs.StoreValue.{Multipliers, SumToZero, store_value_at}
 use Rattle.clr_storedp.specs.Tables.{AreOfSeason, AreTablesOf, Entry, IsTableOf, stocks, table_pairs, values_of}
-use Rattle.clr_storedp.proofs.TableLemmas.{get_or-numbers, length-numbers}
+use Rattle.clr_rows.proofs.Places.{get_or-numbers, length-numbers}
 
 -- ---- one table
 

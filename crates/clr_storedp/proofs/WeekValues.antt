@@ -17,19 +17,13 @@ use Rattle.clr_model.specs.StoreValue.{Multipliers, rung_value, store_value}
 use Rattle.clr_model.proofs.Abiding.{length_more}
 use Rattle.clr_model.proofs.Best.{best_value-same, first_best-same}
 use Rattle.clr_model.proofs.Sums.{All-imply}
-use Rattle.clr_storedp.specs.BySummary.{best_value, choice_so_far, lead_value, leads, summary_choice, summary_prefix, summary_value, value_so_far}
+use Rattle.clr_rows.specs.Leads.{best_value, choice_so_far, lead_value, leads, value_so_far}
+use Rattle.clr_rows.specs.Summaries.{summary_prefix}
+use Rattle.clr_rows.proofs.Bests.{best_some}
+use Rattle.clr_rows.proofs.Prefixes.{IsPrefixOf, one_more, prefix_is, rungs_lead, some_leads}
+use Rattle.clr_storedp.specs.BySummary.{added, average_into, summary_choice, summary_value}
 use Rattle.clr_storedp.proofs.Fees.{average_apart}
-use Rattle.clr_storedp.proofs.Prefixes.{IsPrefixOf, prefix_is, value_at_prefix}
-
-pub filter-same : (p q : ℕ → Bool) (xs : List ℕ) → ((x : ℕ) → p x ≡ q x) → filter p xs ≡ filter q xs
-filter-same p q xs h = ap (λ f. filter f xs) (fun_ext h)
-
-pub best_some : (f : ℕ → ℤ) (xs : List ℕ) → (xs ≡ [] → ⊥) → f (first_best f 1 xs) ≡ best_value f xs
-best_some f [] some = absurd (some refl)
-best_some f (x ∷ xs) some = refl
-
-pub one_more : (weeks done : ℕ) → suc done ≤ weeks → weeks - done ≡ suc (weeks - suc done)
-one_more weeks done h = omega arith
+use Rattle.clr_storedp.proofs.Prefixes.{value_at_prefix}
 
 module _ (leans : ℤ → ℤ → Type 0) (div : ℤ → ℕ → ℤ) (laws : IsDirection leans div) (m : Multipliers) (season : Season) (store done stock : ℕ) (s : Summary) (is : IsSeason season) (first : 1 ≤ store) (last : store ≤ length season.stores) (early : done < season.rules.weeks)
     (live : is_live_summary season.rules done s ≡ true) where
@@ -43,7 +37,7 @@ module _ (leans : ℤ → ℤ → Type 0) (div : ℤ → ℕ → ℤ) (laws : Is
   abbrev gives : ℕ → ℤ
   gives rung = rung_value div m season store prefix rung stock (λ rest. store_value div m season store (season.rules.weeks - suc (length prefix)) (prefix ++ rung ∷ []) rest)
 
-  given : (rung : ℕ) → is_live season.rules (prefix ++ rung ∷ []) ≡ true → gives rung ≡ lead_value div m season store done s stock rung
+  given : (rung : ℕ) → is_live season.rules (prefix ++ rung ∷ []) ≡ true → gives rung ≡ lead_value season.rules (average_into div m season store done) (added m season store done) s stock rung
   given rung next =
       let range = live-rung season.rules prefix rung next in
       let long : length (prefix ++ rung ∷ []) ≡ suc done = length_more prefix rung ∙ ap suc of.long in
@@ -56,26 +50,17 @@ module _ (leans : ℤ → ℤ → Type 0) (div : ℤ → ℕ → ℤ) (laws : Is
       ∙ (ap₂ (λ n k. div (weighed season store n k rung stock (summary_value div m season store (suc done) (next_summary season.rules s rung))) season.base +ℤ m store (suc n) rung) of.long (ap (λ t. t.last) of.same)
       ∙ average_apart leans div laws season store done s.last rung stock (summary_value div m season store (suc done) (next_summary season.rules s rung)) (m store (suc done) rung) is place)
 
-  lists : live_rungs season.rules prefix ≡ leads season.rules done s (length season.rules.prices)
-  lists = filter-same (λ rung. is_live season.rules (prefix ++ rung ∷ [])) (leads_at season.rules done s) (rungs season.rules)
-      (λ rung. sym (leads-live season.rules done s prefix rung (record { weeks = of.long; keeps = live-keeps season.rules prefix of.live; same = of.same })))
-
-  some : live_rungs season.rules prefix ≡ [] → ⊥
-  some e =
-      let (rung, next) = live-next season.rules prefix of.live (subst (λ n. n < season.rules.weeks) (sym of.long) early) in
-      All-live_rungs season.rules prefix (λ _. ⊥) rung next (subst (AllByRecursion (λ _. ⊥)) (sym e) tt)
-
-  agree : AllByRecursion (λ rung. gives rung ≡ lead_value div m season store done s stock rung) (live_rungs season.rules prefix)
+  agree : AllByRecursion (λ rung. gives rung ≡ lead_value season.rules (average_into div m season store done) (added m season store done) s stock rung) (live_rungs season.rules prefix)
   agree = All-imply (λ rung. is_live season.rules (prefix ++ rung ∷ []) ≡ true) _ (live_rungs season.rules prefix) given (All-filter (λ rung. is_live season.rules (prefix ++ rung ∷ [])) (rungs season.rules))
 
-  pub value_is : value_so_far div m season store done s (length season.rules.prices) stock ≡ summary_value div m season store done s stock
+  pub value_is : value_so_far season.rules done (average_into div m season store done) (added m season store done) s (length season.rules.prices) stock ≡ summary_value div m season store done s stock
   value_is =
       sym (ap (λ n. store_value div m season store n prefix stock) (one_more season.rules.weeks (length prefix) (subst (λ n. suc n ≤ season.rules.weeks) (sym of.long) early))
-      ∙ (best_value-same gives (lead_value div m season store done s stock) 1 (live_rungs season.rules prefix) some agree
-      ∙ (best_some (lead_value div m season store done s stock) (live_rungs season.rules prefix) some
-      ∙ ap (best_value (lead_value div m season store done s stock)) lists)))
+      ∙ (best_value-same gives (lead_value season.rules (average_into div m season store done) (added m season store done) s stock) 1 (live_rungs season.rules prefix) (some_leads season.rules done s prefix of early) agree
+      ∙ (best_some (lead_value season.rules (average_into div m season store done) (added m season store done) s stock) (live_rungs season.rules prefix) (some_leads season.rules done s prefix of early)
+      ∙ ap (best_value (lead_value season.rules (average_into div m season store done) (added m season store done) s stock)) (rungs_lead season.rules done s prefix of))))
 
-  pub choice_is : choice_so_far div m season store done s (length season.rules.prices) stock ≡ summary_choice div m season store done s stock
+  pub choice_is : choice_so_far season.rules done (average_into div m season store done) (added m season store done) s (length season.rules.prices) stock ≡ summary_choice div m season store done s stock
   choice_is =
-      sym ((first_best-same gives (lead_value div m season store done s stock) 1 (live_rungs season.rules prefix) agree).0
-      ∙ ap (first_best (lead_value div m season store done s stock) 1) lists)
+      sym ((first_best-same gives (lead_value season.rules (average_into div m season store done) (added m season store done) s stock) 1 (live_rungs season.rules prefix) agree).0
+      ∙ ap (first_best (lead_value season.rules (average_into div m season store done) (added m season store done) s stock) 1) (rungs_lead season.rules done s prefix of))

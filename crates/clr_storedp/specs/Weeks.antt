@@ -1,20 +1,15 @@
 -- The rows of one week of a store's table.
 use Rattle.std.specs.Prelude.{◌≡◌, ℕ, ◌-◌, ◌<◌, ℤ, pos, List, [], length, get_or}
-use Rattle.clr_rules.specs.declared.season_rules.Summary.{Summary}
-use Rattle.clr_rules.specs.LiveSummaries.{at_week, live_pairs}
 use Rattle.clr_season.specs.Season.{Season}
 use Rattle.clr_model.specs.StoreValue.{Multipliers}
+use Rattle.clr_rows.specs.Rows.{AreRows, AreWithin, WeekRows}
+use Rattle.clr_rows.specs.Summaries.{live_week}
 use Rattle.clr_storedp.specs.BySummary.{summary_choice, summary_value}
-use Rattle.clr_storedp.specs.Rows.{AreRows, AreWithin, WeekRows}
-
--- the live summaries after so many weeks, in their order
-abbrev pub live_week : Season → ℕ → List Summary
-live_week season done = at_week done (live_pairs season.rules)
 
 -- The values at each live summary after so many weeks, and the choices where a week is to come.
 pub record IsWeek (div : ℤ → ℕ → ℤ) (m : Multipliers) (season : Season) (store width done : ℕ) (week : WeekRows) : Type 0 where
-  pub values : AreRows (pos 0) width (live_week season done) (length (live_week season done)) (summary_value div m season store done) week.values
-  pub choices : done < season.rules.weeks → AreRows 0 width (live_week season done) (length (live_week season done)) (summary_choice div m season store done) week.choices
+  pub values : AreRows (pos 0) width (live_week season.rules done) (length (live_week season.rules done)) (summary_value div m season store done) week.values
+  pub choices : done < season.rules.weeks → AreRows 0 width (live_week season.rules done) (length (live_week season.rules done)) (summary_choice div m season store done) week.choices
   pub last : done ≡ season.rules.weeks → week.choices ≡ []
   pub small : AreWithin 1000000000000000000 week.values
 

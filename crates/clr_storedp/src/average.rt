@@ -1,11 +1,13 @@
 // The averages of one week, one for each summary after it.
 ghost use Rattle.std.specs.Prelude.{◌≡◌, ℕ, ◌≤◌, ◌<◌, ◌*◌, length, IfOk};
 ghost use Rattle.clr_rules.specs.declared.season_rules.Summary.{Summary};
-ghost use Rattle.clr_storedp.specs.Rows.{AreAverages, AreOnLadder, AreWithin};
+ghost use Rattle.clr_rows.specs.Summaries.{AreOnLadder};
+ghost use Rattle.clr_rows.specs.Rows.{AreWithin};
+ghost use Rattle.clr_storedp.specs.Rows.{AreAverages};
 
-use crate::rows::{reach_of, row_of};
 use clr_model::average_week;
 use clr_num::Direction;
+use clr_rows::{reach_of, row_of};
 use clr_rules::Summary;
 use clr_season::Season;
 use std::alloc::{AllocError, Global};
@@ -28,7 +30,7 @@ pub fn average_rows<R: Direction>(
     requires high { store ≤ length season.now.stores }
     requires early { done < season.now.rules.weeks }
     requires width { width ≤ 2001 }
-    requires ladder { AreOnLadder season.now list.now }
+    requires ladder { AreOnLadder season.now.rules list.now }
     requires size { length after.now ≡ length list.now * width }
     requires values { AreWithin 1000000000000000000 after.now }
     ensures { IfOk result (λ rows. AreAverages R.quotient season.now store done width list.now after.now (length list.now) rows.items) }

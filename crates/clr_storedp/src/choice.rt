@@ -5,65 +5,17 @@ ghost use Rattle.clr_mult.specs.Tables.{mult_at};
 ghost use Rattle.clr_rules.specs.LiveSummaries.{at_week, is_live_summary, leads_at, live_pairs};
 ghost use Rattle.clr_rules.specs.Rules.{IsRulebook, next_summary};
 ghost use Rattle.clr_season.specs.Season.{IsPlace, IsSeason, store_at};
-ghost use Rattle.clr_storedp.specs.BySummary.{added, average_into, choice_so_far, lowest, summary_choice, summary_value, value_so_far};
-ghost use Rattle.clr_storedp.specs.Rows.{AreRows, AreWithin};
+ghost use Rattle.clr_rows.specs.Leads.{choice_so_far, value_so_far};
+ghost use Rattle.clr_storedp.specs.BySummary.{added, average_into, summary_choice, summary_value};
+ghost use Rattle.clr_rows.specs.Rows.{AreRows, AreWithin};
 ghost use Rattle.clr_storedp.specs.Tables.{AreOfSeason, AreSmall};
 
-use crate::rows::row_of;
 use clr_model::relabelling;
 use clr_mult::Mult;
 use clr_num::Direction;
-use clr_rules::{Live, Rules, Summary};
+use clr_rows::{LOWEST, lead, raise_row, row_of};
+use clr_rules::{Live, Summary};
 use clr_season::Season;
-
-/// Less than each value.
-pub const LOWEST: i64 = -4_000_000_000_000_000_000;
-
-/// The greater of two values with its choice, and the first where they are equal.
-#[inline(always)]
-fn better(value: i64, choice: u8, other: i64, rung: u8) -> (i64, u8)
-    ensures value { result.0 ≡ (if int_lt value other then other else value) }
-    ensures choice { result.1 ≡ (if int_lt value other then rung else choice) }
-{
-    if value < other {
-        (other, rung)
-    } else {
-        (value, choice)
-    }
-}
-
-/// Takes a rung at each stock where its average with what is added gives more than the value so far.
-pub fn raise_row(averages: &[i64], more: i64, rung: u8, values: &mut [i64], choices: &mut [u8])
-    requires same { length averages.now ≡ length values.old }
-    requires also { length choices.old ≡ length values.old }
-    requires small { AreWithin 2000000000000000000 averages.now }
-    requires more { IsWithin 1000000000000000000 more }
-    ensures values { EachIndex values.new (λ x. get_or values.new x (pos 0) ≡ (if int_lt (get_or values.old x (pos 0)) (get_or averages.now x (pos 0) +ℤ more) then get_or averages.now x (pos 0) +ℤ more else get_or values.old x (pos 0))) }
-    ensures choices { EachIndex values.new (λ x. get_or choices.new x 0 ≡ (if int_lt (get_or values.old x (pos 0)) (get_or averages.now x (pos 0) +ℤ more) then rung else get_or choices.old x 0)) }
-{
-    for stock in 0..values.len() {
-        let (value, choice) = better(values[stock], choices[stock], averages[stock] + more, rung);
-        values[stock] = value;
-        choices[stock] = choice;
-    }
-}
-
-/// Where a rung leads from a live summary: the place, among the live ones after the next week, of the summary after it, and
-/// None where it isn't live.
-pub fn lead(rules: &Rules, live: &Live, done: u32, s: Summary, rung: u32) -> Option<u32>
-    requires rules { IsRulebook rules.now }
-    requires live { live.now ≡ live_pairs rules.now }
-    requires early { done < rules.now.weeks }
-    requires here { IsTrue (is_live_summary rules.now done s) }
-    requires low { 1 ≤ rung }
-    requires high { rung ≤ length rules.now.prices }
-    ensures { MatchOption result (leads_at rules.now done s rung ≡ false) (λ place. (leads_at rules.now done s rung ≡ true) × (slice_get (at_week (suc done) live.now) place ≡ Some (next_summary rules.now s rung))) }
-{
-    match rules.next(done, s, rung) {
-        Some(next) => live.find(done + 1, next),
-        None => None,
-    }
-}
 
 /// What is added to the average for a rung after another.
 fn added(season: &Season, mult: &Mult, store: u32, done: u32, before: u32, rung: u32) -> i64
@@ -99,10 +51,10 @@ fn try_rung<R: Direction>(
     requires same { length choices.old ≡ length values.old }
     requires averages { AreRows (pos 0) (length values.old) (at_week (suc done) live.now) (length (at_week (suc done) live.now)) (average_into R.quotient (mult_at mult.now) season.now store done) averages.now }
     requires within { AreWithin 2000000000000000000 averages.now }
-    requires values { EachIndex values.old (λ x. get_or values.old x (pos 0) ≡ value_so_far R.quotient (mult_at mult.now) season.now store done s (rung - 1) x) }
-    requires choices { EachIndex values.old (λ x. get_or choices.old x 0 ≡ choice_so_far R.quotient (mult_at mult.now) season.now store done s (rung - 1) x) }
-    ensures values { EachIndex values.new (λ x. get_or values.new x (pos 0) ≡ value_so_far R.quotient (mult_at mult.now) season.now store done s rung x) }
-    ensures choices { EachIndex values.new (λ x. get_or choices.new x 0 ≡ choice_so_far R.quotient (mult_at mult.now) season.now store done s rung x) }
+    requires values { EachIndex values.old (λ x. get_or values.old x (pos 0) ≡ value_so_far season.now.rules done (average_into R.quotient (mult_at mult.now) season.now store done) (added (mult_at mult.now) season.now store done) s (rung - 1) x) }
+    requires choices { EachIndex values.old (λ x. get_or choices.old x 0 ≡ choice_so_far season.now.rules done (average_into R.quotient (mult_at mult.now) season.now store done) (added (mult_at mult.now) season.now store done) s (rung - 1) x) }
+    ensures values { EachIndex values.new (λ x. get_or values.new x (pos 0) ≡ value_so_far season.now.rules done (average_into R.quotient (mult_at mult.now) season.now store done) (added (mult_at mult.now) season.now store done) s rung x) }
+    ensures choices { EachIndex values.new (λ x. get_or choices.new x 0 ≡ choice_so_far season.now.rules done (average_into R.quotient (mult_at mult.now) season.now store done) (added (mult_at mult.now) season.now store done) s rung x) }
 {
     match lead(season.rules(), live, done, s, rung) {
         Some(place) => {

@@ -8,12 +8,8 @@
 mod average;
 mod bounds;
 mod choice;
-mod rows;
 mod table;
 mod week;
 
 pub use bounds::{bound, tables};
-pub use choice::{LOWEST, lead, raise_row};
-pub use rows::row_of;
 pub use table::StoreTable;
-pub use week::week_list;

@@ -5,13 +5,13 @@ ghost use Rattle.clr_mult.specs.Tables.{mult_at};
 ghost use Rattle.clr_rules.specs.FirstPath.{SomePathObeys};
 ghost use Rattle.clr_rules.specs.LiveSummaries.{IsAmong, live_pairs};
 ghost use Rattle.clr_season.specs.Season.{IsSeason, store_at};
-ghost use Rattle.clr_storedp.specs.Rows.{AreWithin};
+ghost use Rattle.clr_rows.specs.Rows.{AreWithin};
 ghost use Rattle.clr_storedp.specs.Tables.{AreOfSeason, AreSmall, IsTableOf, choices_of, table_pairs, values_of};
 
-use crate::rows::row_of;
-use crate::week::{Week, earlier_week, end_week};
+use crate::week::{earlier_week, end_week};
 use clr_mult::Mult;
 use clr_num::Direction;
+use clr_rows::{Week, row_of};
 use clr_rules::{Live, Summary};
 use clr_season::Season;
 use std::alloc::{AllocError, Global};
@@ -30,7 +30,8 @@ pub struct StoreTable<R: Direction> {
 
 impl<R: Direction> Model for StoreTable<R> {
     ghost use Rattle.std.specs.Prelude.{List};
-    ghost use Rattle.clr_storedp.specs.Rows.{IsInside, entries_of};
+    ghost use Rattle.clr_rows.specs.Rows.{IsInside};
+    ghost use Rattle.clr_storedp.specs.Rows.{entries_of};
     ghost use Rattle.clr_storedp.specs.Tables.{Entry};
 
     ghost Value = { List Entry };

@@ -6,64 +6,20 @@ ghost use Rattle.clr_rules.specs.declared.season_rules.Summary.{Summary};
 ghost use Rattle.clr_rules.specs.LiveSummaries.{at_week, is_live_summary, live_pairs};
 ghost use Rattle.clr_season.specs.Season.{IsSeason, store_at};
 ghost use Rattle.clr_storedp.specs.BySummary.{average_into, summary_choice, summary_value};
-ghost use Rattle.clr_storedp.specs.Rows.{AreRows, AreWithin};
+ghost use Rattle.clr_rows.specs.Rows.{AreRows, AreWithin};
 ghost use Rattle.clr_storedp.specs.Tables.{AreOfSeason, AreSmall};
-ghost use Rattle.clr_storedp.specs.Weeks.{IsWeek, live_week};
+ghost use Rattle.clr_rows.specs.Summaries.{live_week};
+ghost use Rattle.clr_storedp.specs.Weeks.{IsWeek};
 
 use crate::average::average_rows;
 use crate::choice::best_row;
 use clr_model::CENT;
 use clr_mult::Mult;
 use clr_num::Direction;
+use clr_rows::{Week, week_list};
 use clr_rules::{Live, Summary};
 use clr_season::Season;
 use std::alloc::{AllocError, Global};
-use std::marker::Model;
-
-/// The rows of one week, one for each live summary: the values at the stocks from 0 up and, where a week is to come, the
-/// choices.
-#[derive(Drop)]
-pub struct Week {
-    values: Vec<i64>,
-    choices: Vec<u8>,
-}
-
-impl Model for Week {
-    ghost use Rattle.clr_storedp.specs.Rows.{WeekRows};
-
-    ghost Value = { WeekRows };
-
-    ghost view = { λ w. record { values = w.values.items; choices = w.choices.items } };
-}
-
-impl Week {
-    /// The values, row after row.
-    pub fn values(&self) -> &[i64]
-        ensures { result.now ≡ self.now.values }
-    {
-        &self.values
-    }
-
-    /// The choices, row after row.
-    pub fn choices(&self) -> &[u8]
-        ensures { result.now ≡ self.now.choices }
-    {
-        &self.choices
-    }
-}
-
-/// The live summaries after so many weeks, in their order.
-pub fn week_list(alloc: Global, live: &Live, done: u32) -> Result<Vec<Summary>, AllocError>
-    ensures { IfOk result (λ list. list.items ≡ at_week done live.now) }
-{
-    let mut list = Vec::with_capacity(alloc, live.count(done) as usize)?;
-    let mut next = live.first(done);
-    while let Some(s) = next {
-        list.push(s)?;
-        next = live.after(done, s);
-    }
-    Ok(list)
-}
 
 /// What each stock from 0 up is worth at the end.
 fn end_row(alloc: Global, season: &Season, store: u32, width: usize) -> Result<Vec<i64>, AllocError>
@@ -105,10 +61,7 @@ pub fn end_week<R: Direction>(
     for place in 0..list.len() {
         values.extend_from_slice(&row)?;
     }
-    Ok(Week {
-        values,
-        choices: Vec::new(alloc),
-    })
+    Ok(Week::new(values, Vec::new(alloc)))
 }
 
 /// The rows of a week from the averages of the week that follows.
@@ -130,8 +83,8 @@ fn best_rows<R: Direction>(
     requires mult { AreOfSeason season.now mult.now }
     requires small { AreSmall mult.now }
     requires width { width ≡ suc (store_at season.now store).units }
-    requires list { list.now ≡ live_week season.now done }
-    requires averages { AreRows (pos 0) width (live_week season.now (suc done)) (length (live_week season.now (suc done))) (average_into R.quotient (mult_at mult.now) season.now store done) averages.now }
+    requires list { list.now ≡ live_week season.now.rules done }
+    requires averages { AreRows (pos 0) width (live_week season.now.rules (suc done)) (length (live_week season.now.rules (suc done))) (average_into R.quotient (mult_at mult.now) season.now store done) averages.now }
     requires within { AreWithin 2000000000000000000 averages.now }
     ensures values { IfOk result (λ week. AreRows (pos 0) width list.now (length list.now) (summary_value R.quotient (mult_at mult.now) season.now store done) week.values) }
     ensures choices { IfOk result (λ week. AreRows 0 width list.now (length list.now) (summary_choice R.quotient (mult_at mult.now) season.now store done) week.choices) }
@@ -155,7 +108,7 @@ fn best_rows<R: Direction>(
         values.extend_from_slice(&row)?;
         choices.extend_from_slice(&chosen)?;
     }
-    Ok(Week { values, choices })
+    Ok(Week::new(values, choices))
 }
 
 /// The rows of a week from those of the week after it.

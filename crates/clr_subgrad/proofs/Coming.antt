@@ -15,8 +15,8 @@ use Rattle.clr_model.specs.Revenue.{left}
 use Rattle.clr_model.specs.StoreValue.{Multipliers}
 use Rattle.clr_model.specs.Usage.{mass, whole_mass}
 use Rattle.clr_mult.proofs.Places.{get_or-repeated}
-use Rattle.clr_storedp.specs.Rows.{AreRows}
-use Rattle.clr_storedp.proofs.Lists.{got_inside, in_rows}
+use Rattle.clr_rows.specs.Rows.{AreRows}
+use Rattle.clr_rows.proofs.Lists.{got_inside, in_rows}
 use Rattle.clr_subgrad.specs.Masses.{CameIn, arriving, spread}
 
 -- ---- places

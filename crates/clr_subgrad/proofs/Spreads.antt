@@ -10,7 +10,7 @@ use Rattle.std.specs.List.{sum_by}
 use Rattle.clr_num.specs.Lists.{numbers}
 use Rattle.clr_model.specs.Revenue.{left}
 use Rattle.clr_subgrad.specs.Masses.{spread}
-use Rattle.clr_storedp.proofs.Leads.{numbers_last}
+use Rattle.clr_rows.proofs.Leads.{numbers_last}
 
 -- a sum over the numbers from 0, and the next number
 pub sum_last : (f : ℕ → ℕ) (count : ℕ) → sum_by f (numbers 0 (count + 1)) ≡ sum_by f (numbers 0 count) + f count

@@ -20,13 +20,13 @@ use Rattle.clr_model.specs.Usage.{choice_at, held_stocks, mass, usage}
 use Rattle.clr_model.proofs.JointBounds.{best_live}
 use Rattle.clr_mult.specs.Tables.{Table, usage_at}
 use Rattle.clr_mult.proofs.Places.{get_or-repeated}
-use Rattle.clr_storedp.specs.BySummary.{summary_prefix}
-use Rattle.clr_storedp.specs.Rows.{AreRows, row_at}
+use Rattle.clr_rows.specs.Summaries.{summary_prefix}
+use Rattle.clr_rows.specs.Rows.{AreRows, row_at}
 use Rattle.clr_storedp.specs.Tables.{Entry, IsTableOf, choices_of, stocks}
-use Rattle.clr_storedp.proofs.Lists.{get_or-row_at, got, got_inside, length-row_at, row_end}
-use Rattle.clr_storedp.proofs.Prefixes.{prefix_is}
-use Rattle.clr_storedp.proofs.TableLemmas.{get_or-numbers, length-numbers}
-use Rattle.clr_storedp.proofs.WeekRows.{live_at}
+use Rattle.clr_rows.proofs.Lists.{get_or-row_at, got, got_inside, length-row_at, row_end}
+use Rattle.clr_rows.proofs.Prefixes.{prefix_is}
+use Rattle.clr_rows.proofs.Places.{get_or-numbers, length-numbers}
+use Rattle.clr_rows.proofs.WeekRows.{live_at}
 use Rattle.clr_subgrad.specs.Masses.{CameIn, IsUsed, arriving}
 use Rattle.clr_subgrad.proofs.Leaving.{used_both}
 
@@ -115,7 +115,7 @@ module _ (m : Multipliers) (season : Season) (store done : ℕ) (early : done < 
 module _ (m : Multipliers) (season : Season) (store done place : ℕ) (early : done < season.rules.weeks) (pairs : List (ℕ × Summary)) (is : pairs ≡ live_pairs season.rules) (table : List Entry) (table_is : IsTableOf ceil m season store table) (masses : List ℕ)
     (rows : AreRows 0 (suc (store_at season store).units) (at_week done pairs) (length (at_week done pairs)) (mass m season store done) masses) (s : Summary) (at : slice_get (at_week done pairs) place ≡ Some s) where
   pub live_here : is_live_summary season.rules done s ≡ true
-  live_here = live_at season done place s (omega arith) (subst (λ (ps : List (ℕ × Summary)). slice_get (at_week done ps) place ≡ Some s) is at)
+  live_here = live_at season.rules done place s (omega arith) (subst (λ (ps : List (ℕ × Summary)). slice_get (at_week done ps) place ≡ Some s) is at)
 
   pub inside : place < length (at_week done pairs)
   inside = got_inside (at_week done pairs) place s at

@@ -6,7 +6,7 @@ ghost use Rattle.clr_num.specs.Rounding.{ceil};
 ghost use Rattle.clr_rules.specs.FirstPath.{SomePathObeys};
 ghost use Rattle.clr_rules.specs.LiveSummaries.{at_week, live_pairs};
 ghost use Rattle.clr_season.specs.Season.{store_at};
-ghost use Rattle.clr_storedp.specs.Rows.{AreRows};
+ghost use Rattle.clr_rows.specs.Rows.{AreRows};
 ghost use Rattle.clr_storedp.specs.Tables.{AreOfSeason, AreTablesOf, IsTableOf};
 ghost use Rattle.clr_subgrad.specs.Masses.{IsUsed};
 ghost use Rattle.clr_subgrad.specs.Run.{usage_table};

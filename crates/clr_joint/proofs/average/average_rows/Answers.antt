@@ -3,10 +3,10 @@ use Rattle.std.proofs.lemmas.Option.{slice_get-get_or}
 use Rattle.clr_rules.specs.declared.season_rules.Summary.{Summary}
 use Rattle.clr_model.specs.JointWeek.{joint_base, joint_weighed}
 use Rattle.clr_model.specs.Revenue.{full_stocks}
-use Rattle.clr_storedp.specs.Rows.{AreRows, AreWithin}
-use Rattle.clr_storedp.proofs.Lists.{got, row_end}
-use Rattle.clr_storedp.proofs.TableLemmas.{row_small}
-use Rattle.clr_storedp.proofs.WeekRows.{on_ladder, row_more}
+use Rattle.clr_rows.specs.Rows.{AreRows, AreWithin}
+use Rattle.clr_rows.proofs.Lists.{got, row_end}
+use Rattle.clr_rows.proofs.Places.{row_small}
+use Rattle.clr_rows.proofs.WeekRows.{on_ladder, row_more}
 use Rattle.clr_joint.specs.BySummary.{average_into, by_place}
 use Rattle.clr_model.specs.Stocks.{place_in, stocks_at}
 use Rattle.clr_joint.proofs.Averages.{average_is, within_append}
@@ -15,12 +15,12 @@ use Rattle.clr_joint.proofs.average.average_rows.Goals as goal
 pub average_row-requires-clause-low : goal.average_row-requires-clause-low
 average_row-requires-clause-low g c =
     let lt : c.loop-place.place < length c.args.list.now = omega (arith, c.loop-place-test.true, c.loop-place.auto.place-end) in
-    (on_ladder c.args.season.now (suc c.args.done) c.requires.season c.requires.early c.loop-place.place _ (ap (λ (l : List Summary). slice_get l c.loop-place.place) (sym c.requires.list) ∙ slice_get-get_or c.args.list.now c.loop-place.place (record { last = 0; count = 0; age = 0 }) lt)).0
+    (on_ladder c.args.season.now.rules (suc c.args.done) c.requires.season.rules c.requires.early c.loop-place.place _ (ap (λ (l : List Summary). slice_get l c.loop-place.place) (sym c.requires.list) ∙ slice_get-get_or c.args.list.now c.loop-place.place (record { last = 0; count = 0; age = 0 }) lt)).0
 
 pub average_row-requires-clause-high : goal.average_row-requires-clause-high
 average_row-requires-clause-high g c =
     let lt : c.loop-place.place < length c.args.list.now = omega (arith, c.loop-place-test.true, c.loop-place.auto.place-end) in
-    (on_ladder c.args.season.now (suc c.args.done) c.requires.season c.requires.early c.loop-place.place _ (ap (λ (l : List Summary). slice_get l c.loop-place.place) (sym c.requires.list) ∙ slice_get-get_or c.args.list.now c.loop-place.place (record { last = 0; count = 0; age = 0 }) lt)).1
+    (on_ladder c.args.season.now.rules (suc c.args.done) c.requires.season.rules c.requires.early c.loop-place.place _ (ap (λ (l : List Summary). slice_get l c.loop-place.place) (sym c.requires.list) ∙ slice_get-get_or c.args.list.now c.loop-place.place (record { last = 0; count = 0; age = 0 }) lt)).1
 
 pub average_row-requires-clause-within : goal.average_row-requires-clause-within
 average_row-requires-clause-within g c =

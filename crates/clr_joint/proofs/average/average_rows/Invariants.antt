@@ -1,5 +1,5 @@
 use Rattle.std.proofs.Common.{pos}
-use Rattle.clr_storedp.specs.Rows.{AreRows, AreWithin}
+use Rattle.clr_rows.specs.Rows.{AreRows, AreWithin}
 use Rattle.clr_joint.specs.BySummary.{average_into, by_place}
 use Rattle.clr_joint.proofs.average.average_rows.Given as goal
 

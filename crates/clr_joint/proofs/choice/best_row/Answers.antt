@@ -1,7 +1,6 @@
-use Rattle.std.proofs.Common.{◌≡◌, ◌-◌, length, ap, ◌∙◌, arith}
-use Rattle.clr_model.specs.Revenue.{full_stocks}
-use Rattle.clr_joint.specs.BySummary.{choice_so_far, value_so_far}
-use Rattle.clr_model.specs.Stocks.{stocks_at}
+use Rattle.std.proofs.Common.{◌≡◌, ◌-◌, neg_ℤ, length, ap, ◌∙◌, arith}
+use Rattle.clr_rows.specs.Leads.{choice_so_far, value_so_far}
+use Rattle.clr_joint.specs.BySummary.{average_into, by_place, costs}
 use Rattle.clr_joint.proofs.Values.{choice_is, value_is}
 use Rattle.clr_joint.proofs.choice.best_row.Goals as goal
 
@@ -9,12 +8,12 @@ pub returns-clause-values : goal.returns-clause-values
 returns-clause-values g c = λ x h.
     let all : c.loop-rung.rung - 1 ≡ length c.args.season.now.rules.prices = omega (arith, c.loop-rung-test.false, c.loop-rung.auto.rung-end, c.rungs-rung-end.ensures.value) in
     c.loop-rung.invariant.values x h
-    ∙ (ap (λ n. value_so_far g.R.Direction.quotient c.args.season.now c.args.done c.args.s n (stocks_at (full_stocks c.args.season.now) x)) all
-    ∙ value_is g.R.Direction.leans g.R.Direction.quotient g.met.R.Direction.laws c.args.season.now c.args.done (stocks_at (full_stocks c.args.season.now) x) c.args.s c.rungs-rung-end.ensures.facts c.requires.early c.requires.here)
+    ∙ (ap (λ n. value_so_far c.args.season.now.rules c.args.done (by_place c.args.season.now (average_into g.R.Direction.quotient c.args.season.now c.args.done)) (λ before rung. neg_ℤ (costs c.args.season.now before rung)) c.args.s n x) all
+    ∙ value_is g.R.Direction.leans g.R.Direction.quotient g.met.R.Direction.laws c.args.season.now c.args.done x c.args.s c.rungs-rung-end.ensures.facts c.requires.early c.requires.here)
 
 pub returns-clause-choices : goal.returns-clause-choices
 returns-clause-choices g c = λ x h.
     let all : c.loop-rung.rung - 1 ≡ length c.args.season.now.rules.prices = omega (arith, c.loop-rung-test.false, c.loop-rung.auto.rung-end, c.rungs-rung-end.ensures.value) in
     c.loop-rung.invariant.choices x h
-    ∙ (ap (λ n. choice_so_far g.R.Direction.quotient c.args.season.now c.args.done c.args.s n (stocks_at (full_stocks c.args.season.now) x)) all
-    ∙ choice_is g.R.Direction.leans g.R.Direction.quotient g.met.R.Direction.laws c.args.season.now c.args.done (stocks_at (full_stocks c.args.season.now) x) c.args.s c.rungs-rung-end.ensures.facts c.requires.early c.requires.here)
+    ∙ (ap (λ n. choice_so_far c.args.season.now.rules c.args.done (by_place c.args.season.now (average_into g.R.Direction.quotient c.args.season.now c.args.done)) (λ before rung. neg_ℤ (costs c.args.season.now before rung)) c.args.s n x) all
+    ∙ choice_is g.R.Direction.leans g.R.Direction.quotient g.met.R.Direction.laws c.args.season.now c.args.done x c.args.s c.rungs-rung-end.ensures.facts c.requires.early c.requires.here)

@@ -1,5 +1,5 @@
 use Rattle.std.proofs.Common.{◌≡◌, pos, length}
-use Rattle.clr_storedp.specs.Rows.{AreRows}
+use Rattle.clr_rows.specs.Rows.{AreRows}
 use Rattle.clr_joint.specs.BySummary.{by_place, summary_choice, summary_value}
 use Rattle.clr_joint.proofs.week.best_rows.Given as goal
 

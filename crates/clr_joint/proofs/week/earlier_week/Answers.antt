@@ -2,8 +2,8 @@ use Rattle.std.proofs.Common.{◌≡◌, ℕ, pos, List, length, ap, ◌∙◌, 
 use Rattle.clr_rules.specs.declared.season_rules.Summary.{Summary}
 use Rattle.clr_rules.specs.LiveSummaries.{at_week}
 use Rattle.clr_model.specs.Revenue.{full_stocks}
-use Rattle.clr_storedp.specs.Rows.{AreRows, WeekRows}
-use Rattle.clr_storedp.specs.Weeks.{live_week}
+use Rattle.clr_rows.specs.Rows.{AreRows, WeekRows}
+use Rattle.clr_rows.specs.Summaries.{live_week}
 use Rattle.clr_joint.specs.BySummary.{by_place, summary_choice, summary_value}
 use Rattle.clr_model.specs.Stocks.{lists_of}
 use Rattle.clr_joint.specs.Weeks.{IsWeek}
@@ -17,10 +17,10 @@ both (Err e) P Q R p q h = tt
 
 pub returns : goal.returns
 returns g c =
-    let list : c.deref-2.result.now ≡ live_week c.args.season.now c.args.done = c.deref-2.ensures.value ∙ (c.in_ok-list.ensures ∙ ap (at_week c.args.done) c.requires.live) in
+    let list : c.deref-2.result.now ≡ live_week c.args.season.now.rules c.args.done = c.deref-2.ensures.value ∙ (c.in_ok-list.ensures ∙ ap (at_week c.args.done) c.requires.live) in
     both c.best_rows.result _ _ (λ week. IsWeek g.R.Direction.quotient c.args.season.now c.args.done week) c.best_rows.ensures.values c.best_rows.ensures.choices
     (λ week values choices.
-    let here : AreRows (pos 0) (lists_of (full_stocks c.args.season.now)) (live_week c.args.season.now c.args.done) (length (live_week c.args.season.now c.args.done)) (by_place c.args.season.now (summary_value g.R.Direction.quotient c.args.season.now c.args.done)) week.values
+    let here : AreRows (pos 0) (lists_of (full_stocks c.args.season.now)) (live_week c.args.season.now.rules c.args.done) (length (live_week c.args.season.now.rules c.args.done)) (by_place c.args.season.now (summary_value g.R.Direction.quotient c.args.season.now c.args.done)) week.values
     = subst₂ (λ (w : ℕ) (l : List Summary). AreRows (pos 0) w l (length l) (by_place c.args.season.now (summary_value g.R.Direction.quotient c.args.season.now c.args.done)) week.values) c.requires.width list values in
     record {
       values = here;

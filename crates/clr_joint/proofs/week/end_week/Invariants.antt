@@ -1,7 +1,7 @@
 use Rattle.std.proofs.Common.{pos}
 use Rattle.clr_model.specs.JointValue.{end_value}
 use Rattle.clr_model.specs.Revenue.{full_stocks}
-use Rattle.clr_storedp.specs.Rows.{AreRows}
+use Rattle.clr_rows.specs.Rows.{AreRows}
 use Rattle.clr_joint.specs.BySummary.{by_place}
 use Rattle.clr_model.specs.Stocks.{lists_of}
 use Rattle.clr_joint.proofs.week.end_week.Given as goal

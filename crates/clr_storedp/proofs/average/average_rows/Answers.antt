@@ -2,7 +2,7 @@ use Rattle.std.proofs.Common.{◌≡◌, ◌+◌, ◌++◌, pos, length, get_or,
 use Rattle.clr_model.specs.PathValue.{weighed}
 use Rattle.clr_storedp.specs.Rows.{AreAverages}
 use Rattle.clr_storedp.proofs.Averages.{averages_more}
-use Rattle.clr_storedp.proofs.Lists.{got, written_back}
+use Rattle.clr_rows.proofs.Lists.{got, written_back}
 use Rattle.clr_storedp.proofs.average.average_rows.Goals as goal
 
 pub loop-place-preserved : goal.loop-place-preserved

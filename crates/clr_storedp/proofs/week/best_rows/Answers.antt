@@ -1,13 +1,13 @@
 use Rattle.std.proofs.Common.{◌≡◌, ◌+◌, ◌++◌, pos, length, ap, sym, ◌∙◌, subst, arith, rules}
 use Rattle.clr_mult.specs.Tables.{mult_at}
 use Rattle.clr_storedp.specs.BySummary.{summary_choice, summary_value}
-use Rattle.clr_storedp.specs.Rows.{AreRows}
-use Rattle.clr_storedp.proofs.Lists.{got, written_back}
-use Rattle.clr_storedp.proofs.WeekRows.{item_live, row_more}
+use Rattle.clr_rows.specs.Rows.{AreRows}
+use Rattle.clr_rows.proofs.Lists.{got, written_back}
+use Rattle.clr_rows.proofs.WeekRows.{item_live, row_more}
 use Rattle.clr_storedp.proofs.week.best_rows.Goals as goal
 
 pub best_row-requires-clause-here : goal.best_row-requires-clause-here
-best_row-requires-clause-here g c = item_live c.args.season.now c.args.done c.loop-s.s-index c.args.list.now _ (omega (arith, c.requires.early)) c.requires.list (omega (arith, c.loop-s-test.true, c.loop-s.auto.s-index-end))
+best_row-requires-clause-here g c = item_live c.args.season.now.rules c.args.done c.loop-s.s-index c.args.list.now _ (omega (arith, c.requires.early)) c.requires.list (omega (arith, c.loop-s-test.true, c.loop-s.auto.s-index-end))
 
 pub loop-s-preserved : goal.loop-s-preserved
 loop-s-preserved g c =
@@ -31,9 +31,9 @@ loop-s-preserved g c =
 pub returns-clause-values : goal.returns-clause-values
 returns-clause-values g c =
     let all : c.loop-s.s-index ≡ length c.args.list.now = omega (arith, c.loop-s-test.false, c.loop-s.auto.s-index-end) in
-    subst (λ n. AreRows (pos 0) c.args.width c.args.list.now n (summary_value g.R.Direction.quotient (mult_at c.args.mult.now) c.args.season.now c.args.store c.args.done) c.loop-s.values.items) all c.loop-s.invariant.values
+    subst (AreRows (pos 0) c.args.width c.args.list.now (length c.args.list.now) (summary_value g.R.Direction.quotient (mult_at c.args.mult.now) c.args.season.now c.args.store c.args.done)) (sym c.new.ensures.values) (subst (λ n. AreRows (pos 0) c.args.width c.args.list.now n (summary_value g.R.Direction.quotient (mult_at c.args.mult.now) c.args.season.now c.args.store c.args.done) c.loop-s.values.items) all c.loop-s.invariant.values)
 
 pub returns-clause-choices : goal.returns-clause-choices
 returns-clause-choices g c =
     let all : c.loop-s.s-index ≡ length c.args.list.now = omega (arith, c.loop-s-test.false, c.loop-s.auto.s-index-end) in
-    subst (λ n. AreRows 0 c.args.width c.args.list.now n (summary_choice g.R.Direction.quotient (mult_at c.args.mult.now) c.args.season.now c.args.store c.args.done) c.loop-s.choices.items) all c.loop-s.invariant.choices
+    subst (AreRows 0 c.args.width c.args.list.now (length c.args.list.now) (summary_choice g.R.Direction.quotient (mult_at c.args.mult.now) c.args.season.now c.args.store c.args.done)) (sym c.new.ensures.choices) (subst (λ n. AreRows 0 c.args.width c.args.list.now n (summary_choice g.R.Direction.quotient (mult_at c.args.mult.now) c.args.season.now c.args.store c.args.done) c.loop-s.choices.items) all c.loop-s.invariant.choices)

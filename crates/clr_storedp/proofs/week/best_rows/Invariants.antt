@@ -1,7 +1,7 @@
 use Rattle.std.proofs.Common.{◌≡◌, pos, length}
 use Rattle.clr_mult.specs.Tables.{mult_at}
 use Rattle.clr_storedp.specs.BySummary.{summary_choice, summary_value}
-use Rattle.clr_storedp.specs.Rows.{AreRows}
+use Rattle.clr_rows.specs.Rows.{AreRows}
 use Rattle.clr_storedp.proofs.week.best_rows.Given as goal
 
 abbrev pub invariant-loop-s : goal.invariant-loop-s

@@ -1,6 +1,6 @@
 use Rattle.std.proofs.Common.{pos, ◌*ℤ◌}
 use Rattle.clr_model.specs.Revenue.{cent, salvage_cents}
-use Rattle.clr_storedp.specs.Rows.{AreRows}
+use Rattle.clr_rows.specs.Rows.{AreRows}
 use Rattle.clr_storedp.proofs.week.end_week.Given as goal
 
 abbrev pub invariant-loop-place : goal.invariant-loop-place

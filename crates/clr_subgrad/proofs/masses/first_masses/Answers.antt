@@ -3,7 +3,7 @@ use Rattle.std.specs.Option.{IsSome}
 use Rattle.clr_rules.specs.LiveSummaries.{at_week}
 use Rattle.clr_rules.specs.Rules.{Rulebook, summary}
 use Rattle.clr_season.specs.Season.{store_at}
-use Rattle.clr_storedp.proofs.Lists.{got_inside, in_rows}
+use Rattle.clr_rows.proofs.Lists.{got_inside, in_rows}
 use Rattle.clr_subgrad.proofs.Coming.{first_rows}
 use Rattle.clr_subgrad.proofs.Leaving.{start_in}
 use Rattle.clr_subgrad.proofs.masses.first_masses.Goals as goal

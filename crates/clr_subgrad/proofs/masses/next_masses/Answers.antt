@@ -2,8 +2,8 @@ use Rattle.std.proofs.Common.{◌≡◌, ◌+◌, ◌-◌, ◌*◌, ◌≤◌, �
 use Rattle.clr_rules.specs.LiveSummaries.{at_week, leads_at}
 use Rattle.clr_season.specs.Season.{store_at}
 use Rattle.clr_mult.specs.Tables.{mult_at, usage_at}
-use Rattle.clr_storedp.specs.Rows.{row_at}
-use Rattle.clr_storedp.proofs.Lists.{written_back}
+use Rattle.clr_rows.specs.Rows.{row_at}
+use Rattle.clr_rows.proofs.Lists.{written_back}
 use Rattle.clr_subgrad.proofs.Sweeps.{IsLeft, IsSwept, choices_lead, choices_size, cut, cut_inside, live_here, none_after, part_here, room_here, row_inside, rows_after, swept_more, swept_none, used_after}
 use Rattle.clr_subgrad.proofs.masses.next_masses.Goals as goal
 

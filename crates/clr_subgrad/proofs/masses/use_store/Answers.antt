@@ -3,7 +3,7 @@ use Rattle.clr_rules.specs.LiveSummaries.{at_week}
 use Rattle.clr_season.specs.Season.{store_at}
 use Rattle.clr_model.specs.Usage.{mass}
 use Rattle.clr_mult.specs.Tables.{Within, mult_at}
-use Rattle.clr_storedp.specs.Rows.{AreRows}
+use Rattle.clr_rows.specs.Rows.{AreRows}
 use Rattle.clr_subgrad.proofs.Using.{no_week, sizes_both, week_more, week_none, weeks_used, within_as}
 use Rattle.clr_subgrad.proofs.masses.use_store.Goals as goal
 

@@ -3,7 +3,7 @@ use Rattle.clr_rules.specs.LiveSummaries.{at_week}
 use Rattle.clr_season.specs.Season.{store_at}
 use Rattle.clr_model.specs.Usage.{mass}
 use Rattle.clr_mult.specs.Tables.{EachEntry, SameSizes, mult_at, usage_at}
-use Rattle.clr_storedp.specs.Rows.{AreRows}
+use Rattle.clr_rows.specs.Rows.{AreRows}
 use Rattle.clr_subgrad.proofs.Using.{week_used}
 use Rattle.clr_subgrad.proofs.masses.use_store.Given as goal
 

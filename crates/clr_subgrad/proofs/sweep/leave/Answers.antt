@@ -6,7 +6,7 @@ use Rattle.clr_rules.specs.Rules.{IsInRange, Rulebook, next_if_kept, next_summar
 use Rattle.clr_rules.proofs.LiveLists.{in_range, live-reached}
 use Rattle.clr_rules.proofs.Sweeps.{kept_some}
 use Rattle.clr_season.specs.Season.{store_at}
-use Rattle.clr_storedp.proofs.Lists.{got_inside, in_rows}
+use Rattle.clr_rows.proofs.Lists.{got_inside, in_rows}
 use Rattle.clr_subgrad.specs.Masses.{CameIn, arriving, spread}
 use Rattle.clr_subgrad.proofs.Coming.{came_spread}
 use Rattle.clr_subgrad.proofs.Leaving.{next_in}

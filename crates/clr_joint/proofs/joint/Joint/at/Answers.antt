@@ -3,8 +3,8 @@ use Rattle.std.proofs.lemmas.Int.{to_z-of_z}
 use mir.Syntax.{w64}
 use Rattle.clr_rules.specs.LiveSummaries.{at_week}
 use Rattle.clr_average.specs.Average.{IsWithin}
-use Rattle.clr_storedp.specs.Rows.{WeekRows, place_of, row_at, week_at}
-use Rattle.clr_storedp.proofs.TableLemmas.{place_found}
+use Rattle.clr_rows.specs.Rows.{WeekRows, place_of, row_at, week_at}
+use Rattle.clr_rows.proofs.Places.{place_found}
 use Rattle.clr_model.specs.Stocks.{place_in}
 use Rattle.clr_joint.proofs.Tables.{among_kept, read_values}
 use Rattle.clr_joint.proofs.joint.Joint.at.Goals as goal

@@ -1,7 +1,7 @@
 use Rattle.std.proofs.Common.{◌≡◌, ℕ, ◌<◌, ◌≤◌, ◌+◌, ◌*◌, List, length, get_or, Option, unwrap_or, arith, ap, ap₂, sym, ◌∙◌, subst}
 use Rattle.clr_rules.specs.LiveSummaries.{at_week}
-use Rattle.clr_storedp.specs.Rows.{WeekRows, place_of, row_at, week_at}
-use Rattle.clr_storedp.proofs.TableLemmas.{place_found}
+use Rattle.clr_rows.specs.Rows.{WeekRows, place_of, row_at, week_at}
+use Rattle.clr_rows.proofs.Places.{place_found}
 use Rattle.clr_model.specs.Stocks.{place_in}
 use Rattle.clr_joint.proofs.Tables.{among_kept, read_choice}
 use Rattle.clr_joint.proofs.joint.Joint.choice.Goals as goal

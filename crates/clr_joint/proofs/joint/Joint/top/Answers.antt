@@ -2,7 +2,7 @@ use Rattle.std.proofs.Common.{rules, ◌≡◌, ◌<◌, ◌≤◌, ◌-◌, ◌
 use Rattle.std.proofs.lemmas.Int.{to_z-of_z}
 use mir.Syntax.{w64}
 use Rattle.clr_average.specs.Average.{IsWithin}
-use Rattle.clr_storedp.specs.Rows.{WeekRows, row_at, week_at}
+use Rattle.clr_rows.specs.Rows.{WeekRows, row_at, week_at}
 use Rattle.clr_joint.proofs.Tables.{opening_is}
 use Rattle.clr_joint.proofs.joint.Joint.top.Goals as goal
 

@@ -1,9 +1,10 @@
 use Rattle.std.proofs.Common.{◌≡◌, ℕ, ◌<◌, ◌-◌, List, [], length, get_or, Option, unwrap_or, ap, ap₂, sym, ◌∙◌, arith}
 use Rattle.std.proofs.lemmas.List.{get_or_default}
 use Rattle.clr_rules.specs.LiveSummaries.{IsAmong, at_week}
-use Rattle.clr_storedp.specs.Rows.{WeekRows, place_of, row_at, week_at}
+use Rattle.clr_rows.specs.Rows.{WeekRows, place_of, row_at, week_at}
 use Rattle.clr_storedp.specs.Tables.{Entry, values_of}
-use Rattle.clr_storedp.proofs.TableLemmas.{among_kept, entry_values, place_found, row_inside, row_small}
+use Rattle.clr_rows.proofs.Places.{place_found, row_inside, row_small}
+use Rattle.clr_storedp.proofs.TableLemmas.{among_kept, entry_values}
 use Rattle.clr_storedp.proofs.table.StoreTable.row.Goals as goal
 
 pub overflow_sub-len : goal.overflow_sub-len

@@ -8,10 +8,8 @@ use Rattle.clr_rules.specs.Rules.{Rulebook, IsRulebook, next_if_kept, next_summa
 use Rattle.clr_rules.specs.LiveSummaries.{at_week, leads_at, live_pairs}
 use Rattle.clr_rules.proofs.LiveLaw.{week_is}
 use Rattle.clr_rules.proofs.Sweeps.{kept_some, not_live_no_lead, rung_leads}
-use Rattle.clr_season.specs.Season.{Season}
-use Rattle.clr_model.specs.StoreValue.{Multipliers}
-use Rattle.clr_storedp.specs.BySummary.{best_value, choice_so_far, lead_value, leads, lowest, value_so_far}
-use Rattle.clr_storedp.proofs.Bests.{best_more, best_value_more}
+use Rattle.clr_rows.specs.Leads.{best_value, leads, lowest}
+use Rattle.clr_rows.proofs.Bests.{best_more, best_value_more}
 
 -- ---- one rung more
 
@@ -39,34 +37,24 @@ leads_more rules done s n =
     let one : 1 + n ≡ suc n = omega arith in
     ap (filter (leads_at rules done s)) (numbers_last 1 n ∙ ap (λ k. numbers 1 n ++ k ∷ []) one) ∙ filter_last (leads_at rules done s) (numbers 1 n) (suc n)
 
-module _ (div : ℤ → ℕ → ℤ) (m : Multipliers) (season : Season) (store done : ℕ) (s : Summary) where
-  led : (n : ℕ) → leads_at season.rules done s (suc n) ≡ true → leads season.rules done s (suc n) ≡ leads season.rules done s n ++ suc n ∷ []
-  led n h = leads_more season.rules done s n ∙ ap (λ b. cond b (leads season.rules done s n ++ suc n ∷ []) (leads season.rules done s n)) h
+module _ (rules : Rulebook) (done : ℕ) (s : Summary) where
+  led : (n : ℕ) → leads_at rules done s (suc n) ≡ true → leads rules done s (suc n) ≡ leads rules done s n ++ suc n ∷ []
+  led n h = leads_more rules done s n ∙ ap (λ b. cond b (leads rules done s n ++ suc n ∷ []) (leads rules done s n)) h
 
-  unled : (n : ℕ) → leads_at season.rules done s (suc n) ≡ false → leads season.rules done s (suc n) ≡ leads season.rules done s n
-  unled n h = leads_more season.rules done s n ∙ ap (λ b. cond b (leads season.rules done s n ++ suc n ∷ []) (leads season.rules done s n)) h
+  unled : (n : ℕ) → leads_at rules done s (suc n) ≡ false → leads rules done s (suc n) ≡ leads rules done s n
+  unled n h = leads_more rules done s n ∙ ap (λ b. cond b (leads rules done s n ++ suc n ∷ []) (leads rules done s n)) h
 
-  pub value_led : (rung stock : ℕ) → 1 ≤ rung → leads_at season.rules done s rung ≡ true → lowest <ℤ lead_value div m season store done s stock rung →
-      value_so_far div m season store done s rung stock ≡ (let now = value_so_far div m season store done s (rung - 1) stock in let other = lead_value div m season store done s stock rung in cond (int_lt now other) other now)
-  value_led zero stock low h above = absurd (omega arith)
-  value_led (suc n) stock low h above =
-      let back : suc n - 1 ≡ n = omega arith in
-      rw back (ap (best_value (lead_value div m season store done s stock)) (led n h) ∙ best_value_more (lead_value div m season store done s stock) (leads season.rules done s n) (suc n) above)
+  pub best_led : (f : ℕ → ℤ) (rung : ℕ) → 1 ≤ rung → leads_at rules done s rung ≡ true → lowest <ℤ f rung → best_value f (leads rules done s rung) ≡ cond (int_lt (best_value f (leads rules done s (rung - 1))) (f rung)) (f rung) (best_value f (leads rules done s (rung - 1)))
+  best_led f zero low h above = absurd (omega arith)
+  best_led f (suc n) low h above = let back : suc n - 1 ≡ n = omega arith in rw back (ap (best_value f) (led n h) ∙ best_value_more f (leads rules done s n) (suc n) above)
 
-  pub choice_led : (rung stock : ℕ) → 1 ≤ rung → leads_at season.rules done s rung ≡ true → lowest <ℤ lead_value div m season store done s stock rung →
-      choice_so_far div m season store done s rung stock ≡ cond (int_lt (value_so_far div m season store done s (rung - 1) stock) (lead_value div m season store done s stock rung)) rung (choice_so_far div m season store done s (rung - 1) stock)
-  choice_led zero stock low h above = absurd (omega arith)
-  choice_led (suc n) stock low h above =
-      let back : suc n - 1 ≡ n = omega arith in
-      rw back (ap (λ xs. first_best (lead_value div m season store done s stock) 1 xs) (led n h) ∙ best_more (lead_value div m season store done s stock) (leads season.rules done s n) (suc n) above)
+  pub first_led : (f : ℕ → ℤ) (rung : ℕ) → 1 ≤ rung → leads_at rules done s rung ≡ true → lowest <ℤ f rung → first_best f 1 (leads rules done s rung) ≡ cond (int_lt (best_value f (leads rules done s (rung - 1))) (f rung)) rung (first_best f 1 (leads rules done s (rung - 1)))
+  first_led f zero low h above = absurd (omega arith)
+  first_led f (suc n) low h above = let back : suc n - 1 ≡ n = omega arith in rw back (ap (λ xs. first_best f 1 xs) (led n h) ∙ best_more f (leads rules done s n) (suc n) above)
 
-  pub value_unled : (rung stock : ℕ) → 1 ≤ rung → leads_at season.rules done s rung ≡ false → value_so_far div m season store done s rung stock ≡ value_so_far div m season store done s (rung - 1) stock
-  value_unled zero stock low h = absurd (omega arith)
-  value_unled (suc n) stock low h = let back : suc n - 1 ≡ n = omega arith in rw back (ap (best_value (lead_value div m season store done s stock)) (unled n h))
-
-  pub choice_unled : (rung stock : ℕ) → 1 ≤ rung → leads_at season.rules done s rung ≡ false → choice_so_far div m season store done s rung stock ≡ choice_so_far div m season store done s (rung - 1) stock
-  choice_unled zero stock low h = absurd (omega arith)
-  choice_unled (suc n) stock low h = let back : suc n - 1 ≡ n = omega arith in rw back (ap (λ xs. first_best (lead_value div m season store done s stock) 1 xs) (unled n h))
+  pub none_led : (rung : ℕ) → 1 ≤ rung → leads_at rules done s rung ≡ false → leads rules done s rung ≡ leads rules done s (rung - 1)
+  none_led zero low h = absurd (omega arith)
+  none_led (suc n) low h = let back : suc n - 1 ≡ n = omega arith in rw back (unled n h)
 
 -- ---- where a rung leads
 

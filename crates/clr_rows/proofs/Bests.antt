@@ -1,8 +1,9 @@
 -- The first best of a list with one item more.
-use Rattle.std.proofs.Common.{◌≡◌, ℕ, ℤ, ◌≤ℤ◌, ◌<ℤ◌, Bool, true, false, cond, int_lt, refl, sym, ap, ◌∙◌, arith, List, [], ◌∷◌, ◌++◌}
+use Rattle.std.proofs.Common.{◌≡◌, ℕ, ℤ, pos, neg_ℤ, ◌+ℤ◌, ◌≤ℤ◌, ◌<ℤ◌, Bool, true, false, cond, int_lt, refl, sym, ap, ◌∙◌, arith, List, [], ◌∷◌, ◌++◌}
 use Rattle.std.proofs.lemmas.Int.{ints}
 use Rattle.clr_num.specs.Sums.{first_best}
-use Rattle.clr_storedp.specs.BySummary.{best_value, lowest}
+use Rattle.clr_average.specs.Average.{IsWithin}
+use Rattle.clr_rows.specs.Leads.{best_value, lowest}
 
 pub is_less : (a b : ℤ) → a <ℤ b → int_lt a b ≡ true
 is_less a b h = by_test (int_lt a b) refl
@@ -55,3 +56,14 @@ apply_cond f false x y = refl
 pub best_value_more : (f : ℕ → ℤ) (xs : List ℕ) (x : ℕ) → lowest <ℤ f x → best_value f (xs ++ x ∷ []) ≡ cond (int_lt (best_value f xs) (f x)) (f x) (best_value f xs)
 best_value_more f [] x h = ap (λ t. cond t (f x) lowest) (sym (is_less lowest (f x) h))
 best_value_more f (y ∷ ys) x h = ap f (some_more f y ys x) ∙ apply_cond f (int_lt (f (first_best f 1 (y ∷ ys))) (f x)) x (first_best f 1 (y ∷ ys))
+
+pub best_some : (f : ℕ → ℤ) (xs : List ℕ) → (xs ≡ [] → ⊥) → f (first_best f 1 xs) ≡ best_value f xs
+best_some f [] some = absurd (some refl)
+best_some f (x ∷ xs) some = refl
+
+-- an average with what is added is more than the lowest number
+pub above_lowest : (a b : ℤ) → IsWithin 2000000000000000000 a → IsWithin 1000000000000000000 b → lowest <ℤ (a +ℤ b)
+above_lowest a b h k =
+    let p : neg_ℤ (pos 2000000000000000000) ≤ℤ a = h.low in
+    let q : neg_ℤ (pos 1000000000000000000) ≤ℤ b = k.low in
+    omega (arith, ints)

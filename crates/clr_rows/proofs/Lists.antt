@@ -2,7 +2,7 @@
 use Rattle.std.proofs.Common.{◌≡◌, ◌≢◌, ℕ, suc, zero, ◌+◌, ◌-◌, ◌*◌, ◌<◌, ◌≤◌, List, [], ◌∷◌, ◌++◌, length, get_or, slice_get, Some, take, drop, arith, sym, ap, ◌∙◌, subst, below_more, length-drop, length-append, add-mul, mul-le-mul_right, le_refl, append-nil}
 use Rattle.std.proofs.Math.ListN.{get_or-append, set}
 use Rattle.std.proofs.lemmas.List.{drop_all, take_all, get_or-append-add, get_or-drop, get_or-set_other, get_or-set_same, get_or-take, length-take-le}
-use Rattle.clr_storedp.specs.Rows.{row_at}
+use Rattle.clr_rows.specs.Rows.{row_at}
 
 pub set_more : {X : Type 0} (out : List X) (at : ℕ) (value d : X) (f : ℕ → X) → at < length out → value ≡ f at → ((k : ℕ) → k < at → get_or out k d ≡ f k) → (k : ℕ) → k < at + 1 → get_or (set out at value) k d ≡ f k
 set_more out at value d f lt here before =
@@ -65,3 +65,14 @@ pub written_back : {X : Type 0} (items now : List X) (len : ℕ) → length now 
 written_back items now len same size =
     ap (take len) (ap (λ t. now ++ t) (drop_all (length now) items (subst (λ n. length items ≤ n) (sym same) (le_refl (length items)))) ∙ append-nil now)
     ∙ take_all len now (subst (λ n. n ≤ len) (sym same) (subst (λ n. length items ≤ n) (sym size) (le_refl (length items))))
+
+-- what holds of each item of a list and of one more holds of all
+pub each_more : {X : Type 0} (P : ℕ → X → Type 0) (items : List X) (item d : X) (count : ℕ) → length items ≡ count → ((k : ℕ) → k < count → P k (get_or items k d)) → P count item → (k : ℕ) → k < count + 1 → P k (get_or (items ++ item ∷ []) k d)
+each_more P items item d count size each here k lt =
+    below_more (λ k. P k (get_or (items ++ item ∷ []) k d)) count
+    (λ k h. subst (P k) (sym (get_or-append items (item ∷ []) d k (omega (arith, h, size)))) (each k h))
+    (subst (P count) (sym at_end) here)
+    k lt
+  where
+    at_end : get_or (items ++ item ∷ []) count d ≡ item
+    at_end = let none : length items + 0 ≡ count = omega (arith, size) in ap (λ n. get_or (items ++ item ∷ []) n d) (sym none) ∙ get_or-append-add items (item ∷ []) 0 d

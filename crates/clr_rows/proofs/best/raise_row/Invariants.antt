@@ -1,5 +1,5 @@
 use Rattle.std.proofs.Common.{◌≡◌, ℕ, ◌≤◌, ◌<◌, pos, ◌+ℤ◌, int_lt, if◌then◌else◌, get_or}
-use Rattle.clr_storedp.proofs.choice.raise_row.Given as goal
+use Rattle.clr_rows.proofs.best.raise_row.Given as goal
 
 abbrev pub invariant-loop-stock : goal.invariant-loop-stock
 invariant-loop-stock l = record {

@@ -1,6 +1,6 @@
 use Rattle.std.proofs.Common.{◌≡◌, ◌-◌, length, take, slice_get}
 use Rattle.clr_rules.specs.LiveSummaries.{at_week}
-use Rattle.clr_storedp.proofs.week.week_list.Given as goal
+use Rattle.clr_rows.proofs.summaries.week_list.Given as goal
 
 abbrev pub invariant-loop-next : goal.invariant-loop-next
 invariant-loop-next l = record {

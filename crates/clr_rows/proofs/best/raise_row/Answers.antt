@@ -3,8 +3,8 @@ use Rattle.std.proofs.lemmas.Int.{to_z-of_z}
 use mir.Syntax.{w64}
 use Rattle.clr_average.specs.Average.{IsWithin}
 use Rattle.clr_average.proofs.Within.{within_64, within_sum}
-use Rattle.clr_storedp.proofs.Lists.{set_ahead, set_more}
-use Rattle.clr_storedp.proofs.choice.raise_row.Goals as goal
+use Rattle.clr_rows.proofs.Lists.{set_ahead, set_more}
+use Rattle.clr_rows.proofs.best.raise_row.Goals as goal
 
 pub loop-stock-preserved : goal.loop-stock-preserved
 loop-stock-preserved c =

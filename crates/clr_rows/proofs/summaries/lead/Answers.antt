@@ -2,8 +2,8 @@ use Rattle.std.proofs.Common.{sym, arith, add-one, slice_get, ap, ◌∙◌}
 use Rattle.clr_rules.specs.LiveSummaries.{at_week}
 use Rattle.clr_rules.proofs.LiveLists.{in_range, live-reached}
 use Rattle.clr_rules.proofs.Sweeps.{not_kept_no_lead}
-use Rattle.clr_storedp.proofs.Leads.{lead_found}
-use Rattle.clr_storedp.proofs.choice.lead.Goals as goal
+use Rattle.clr_rows.proofs.Leads.{lead_found}
+use Rattle.clr_rows.proofs.summaries.lead.Goals as goal
 
 pub next-requires-clause-range : goal.next-requires-clause-range
 next-requires-clause-range c = in_range c.args.rules.now c.args.done c.args.s c.requires.rules (omega arith) (live-reached c.args.rules.now c.args.done c.args.s c.requires.here)

@@ -1,6 +1,6 @@
 use Rattle.std.proofs.Common.{ℕ, ◌≤◌, ◌<◌, pos, get_or}
 use Rattle.clr_average.specs.Average.{IsWithin}
-use Rattle.clr_storedp.proofs.rows.reach_of.Given as goal
+use Rattle.clr_rows.proofs.rows.reach_of.Given as goal
 
 abbrev pub invariant-loop-value : goal.invariant-loop-value
 invariant-loop-value l = record {

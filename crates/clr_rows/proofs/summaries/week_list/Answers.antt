@@ -1,7 +1,7 @@
 use Rattle.std.proofs.Common.{length, slice_get, take, ap, sym, ◌∙◌}
 use Rattle.clr_rules.specs.LiveSummaries.{at_week}
-use Rattle.clr_storedp.proofs.WeekRows.{all_listed, listed_more}
-use Rattle.clr_storedp.proofs.week.week_list.Goals as goal
+use Rattle.clr_rows.proofs.WeekRows.{all_listed, listed_more}
+use Rattle.clr_rows.proofs.summaries.week_list.Goals as goal
 
 pub loop-next-preserved : goal.loop-next-preserved
 loop-next-preserved c =
