@@ -1,5 +1,5 @@
 // The answers of the checker, and those that it must give.
-use clr_check::{CheckError, Claims, check_file};
+use clr_check::{CheckError, Checker, Claims, check_file};
 use clr_io::MemoryShelf;
 use clr_season::Season;
 use std::alloc::{AllocError, Global};
@@ -96,7 +96,49 @@ pub fn is_answered_over(
     is_answer(alloc, season, &mut shelf, name, want)
 }
 
-/// Whether the checker answers this for a certificate, however the reads are cut.
+// How many lines a checker takes that is fed the lines of a text.
+fn feed_lines(checker: &mut Checker<'_>, text: &[u8]) -> usize {
+    let mut taken = 0_usize;
+    for line in text.split(|byte| *byte == b'\n') {
+        if !line.contains(&b'\n') && checker.feed(line).is_ok() {
+            taken = taken.saturating_add(1);
+        }
+    }
+    taken
+}
+
+// Whether a checker that is fed line after line takes those before the one that is refused, and then answers this.
+fn is_fed(
+    alloc: Global,
+    season: &Season,
+    text: &[u8],
+    want: Want<'_>,
+) -> Result<bool, AllocError> {
+    let mut checker = Checker::open(alloc, season)?;
+    let taken = feed_lines(&mut checker, text);
+    match checker.close() {
+        Ok(claims) => Ok(want.rest == "yes" && are_its_claims(&claims)),
+        Err(no) => {
+            let (row, rest) = shown(alloc, CheckError::No(no))?;
+            Ok(row == want.row && rest.as_str() == want.rest && taken.saturating_add(1) == row)
+        }
+    }
+}
+
+// The same of a text whose last line ends too; no other is a list of lines.
+fn is_fed_alike(
+    alloc: Global,
+    season: &Season,
+    text: &[u8],
+    want: Want<'_>,
+) -> Result<bool, AllocError> {
+    match text.strip_suffix(b"\n") {
+        Some(lines) => is_fed(alloc, season, lines, want),
+        None => Ok(true),
+    }
+}
+
+/// Whether the checker answers this for a certificate, however the reads are cut, and where its lines are fed one by one.
 pub fn is_answered(
     alloc: Global,
     season: &Season,
@@ -108,5 +150,5 @@ pub fn is_answered(
             return Ok(false);
         }
     }
-    Ok(true)
+    is_fed_alike(alloc, season, text, want)
 }
