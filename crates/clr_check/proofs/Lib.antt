@@ -31,6 +31,7 @@ pub mod Holding
 pub mod Rooms
 pub mod Answered
 pub mod ConditionsLemmas
+pub mod BothSides
 pub mod ConditionsLines
 pub mod FileAnswers
 pub mod FileLemmas

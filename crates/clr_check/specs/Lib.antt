@@ -6,3 +6,4 @@ pub mod JointRows
 pub mod Rows
 pub mod Standing
 pub mod FileChecks
+pub mod Sides

@@ -7,6 +7,7 @@ ghost use Rattle.clr_cert.specs.Places.{IsPlaceOf, IsWeekStore};
 ghost use Rattle.clr_cert.specs.Reading.{are_in_range, count_at, entries_in, is_within, most_total};
 ghost use Rattle.clr_check.specs.Faults.{AreNumbers, first_fault};
 ghost use Rattle.clr_check.specs.Rows.{AreRowsOf, kept_at};
+ghost use Rattle.clr_check.specs.Sides.{path_place, path_rows};
 ghost use Rattle.clr_check.specs.Standing.{AreTables, IsLineKept, row_number, row_store, stock_count};
 ghost use Rattle.clr_model.specs.Fits.{fits};
 ghost use Rattle.clr_model.specs.Revenue.{sum_stores};
@@ -25,37 +26,21 @@ use clr_model::lists_of_stocks;
 use clr_rules::{Live, Summary};
 use clr_season::Season;
 
-// The first condition of the path's low values to a store that fails.
-fn low_fault(
-    season: &Season,
-    tables: &Tables,
-    done: u32,
-    store: u32,
-    numbers: &[i128],
-) -> Option<Fault>
-    requires place { IsWeekStore season.now done store }
-    requires tables { AreTables season.now tables.now }
-    requires numbers { AreNumbers season.now store numbers.now }
-    ensures { (lines : List (List ℕ)) (row : ℕ) → IsLineKept season.now lines row (Place.Low done store) tables.now numbers.now →
-        result ≡ first_fault (conditions season.now (entries_in season.now lines) numbers.now (Place.Low done store)) }
+// The rows of the path's values on one side of what it earns.
+fn path_rows(tables: &Tables, bound: Bound) -> &Rows
+    ensures { result.now ≡ path_rows bound tables.now }
 {
-    prove!(done <= season.weeks());
-    let after = tables.lows.row(row_number(store, done + 1));
-    entry_fault(
-        season,
-        Bound::Below,
-        &tables.path,
-        done,
-        store,
-        numbers,
-        after,
-    )
+    match bound {
+        Bound::Below => &tables.lows,
+        Bound::Above => &tables.highs,
+    }
 }
 
-// The first condition of the path's high values to a store that fails.
-fn high_fault(
+// The first condition of the path's values to a store that fails, of those on one side of what it earns.
+fn path_values_fault(
     season: &Season,
     tables: &Tables,
+    bound: Bound,
     done: u32,
     store: u32,
     numbers: &[i128],
@@ -63,20 +48,12 @@ fn high_fault(
     requires place { IsWeekStore season.now done store }
     requires tables { AreTables season.now tables.now }
     requires numbers { AreNumbers season.now store numbers.now }
-    ensures { (lines : List (List ℕ)) (row : ℕ) → IsLineKept season.now lines row (Place.High done store) tables.now numbers.now →
-        result ≡ first_fault (conditions season.now (entries_in season.now lines) numbers.now (Place.High done store)) }
+    ensures { (lines : List (List ℕ)) (row : ℕ) → IsLineKept season.now lines row (path_place bound done store) tables.now numbers.now →
+        result ≡ first_fault (conditions season.now (entries_in season.now lines) numbers.now (path_place bound done store)) }
 {
     prove!(done <= season.weeks());
-    let after = tables.highs.row(row_number(store, done + 1));
-    entry_fault(
-        season,
-        Bound::Above,
-        &tables.path,
-        done,
-        store,
-        numbers,
-        after,
-    )
+    let after = path_rows(tables, bound).row(row_number(store, done + 1));
+    entry_fault(season, bound, &tables.path, done, store, numbers, after)
 }
 
 // The first condition of a store's values at a live summary that fails.
@@ -247,8 +224,12 @@ pub(crate) fn numbers_fault(
     match place {
         Place::Path => path_fault(season, live, &tables.path),
         Place::Mult { .. } => mult_fault(numbers),
-        Place::Low { done, store } => low_fault(season, tables, done, store, numbers),
-        Place::High { done, store } => high_fault(season, tables, done, store, numbers),
+        Place::Low { done, store } => {
+            path_values_fault(season, tables, Bound::Below, done, store, numbers)
+        }
+        Place::High { done, store } => {
+            path_values_fault(season, tables, Bound::Above, done, store, numbers)
+        }
         Place::Value { done, store, s } => {
             value_line_fault(season, live, tables, done, store, s, numbers)
         }

@@ -18,23 +18,23 @@ mult_fault-requires-clause-small c = all_small most_mult c.args.numbers.now (sub
 pub returns-in-Mult : goal.returns-in-Mult
 returns-in-Mult c = rw c.in-Mult.is (λ lines row kept. mult_line_is c.args.season.now lines row c.args.tables.now c.args.numbers.now c.mult_fault.result c.in-Mult.week c.in-Mult.rung (c.requires.count ∙ ap (count_at c.args.season.now) c.in-Mult.is) kept c.mult_fault.ensures)
 
-pub low_fault-requires-clause-place : goal.low_fault-requires-clause-place
-low_fault-requires-clause-place c = subst (IsPlaceOf c.args.season.now) c.in-Low.is c.requires.place
+pub path_values_fault-requires-clause-place : goal.path_values_fault-requires-clause-place
+path_values_fault-requires-clause-place c = subst (IsPlaceOf c.args.season.now) c.in-Low.is c.requires.place
 
-pub low_fault-requires-clause-numbers : goal.low_fault-requires-clause-numbers
-low_fault-requires-clause-numbers c = are_numbers c.args.season.now c.in-Low.store c.args.numbers.now (c.requires.count ∙ ap (count_at c.args.season.now) c.in-Low.is) (subst (λ p. IsTrue (are_in_range c.args.season.now p c.args.numbers.now)) c.in-Low.is c.requires.range)
+pub path_values_fault-requires-clause-numbers : goal.path_values_fault-requires-clause-numbers
+path_values_fault-requires-clause-numbers c = are_numbers c.args.season.now c.in-Low.store c.args.numbers.now (c.requires.count ∙ ap (count_at c.args.season.now) c.in-Low.is) (subst (λ p. IsTrue (are_in_range c.args.season.now p c.args.numbers.now)) c.in-Low.is c.requires.range)
 
 pub returns-in-Low : goal.returns-in-Low
-returns-in-Low c = rw c.in-Low.is c.low_fault.ensures
+returns-in-Low c = rw c.in-Low.is c.path_values_fault.ensures
 
-pub high_fault-requires-clause-place : goal.high_fault-requires-clause-place
-high_fault-requires-clause-place c = subst (IsPlaceOf c.args.season.now) c.in-High.is c.requires.place
+pub path_values_fault-requires-in-High-clause-place : goal.path_values_fault-requires-in-High-clause-place
+path_values_fault-requires-in-High-clause-place c = subst (IsPlaceOf c.args.season.now) c.in-High.is c.requires.place
 
-pub high_fault-requires-clause-numbers : goal.high_fault-requires-clause-numbers
-high_fault-requires-clause-numbers c = are_numbers c.args.season.now c.in-High.store c.args.numbers.now (c.requires.count ∙ ap (count_at c.args.season.now) c.in-High.is) (subst (λ p. IsTrue (are_in_range c.args.season.now p c.args.numbers.now)) c.in-High.is c.requires.range)
+pub path_values_fault-requires-in-High-clause-numbers : goal.path_values_fault-requires-in-High-clause-numbers
+path_values_fault-requires-in-High-clause-numbers c = are_numbers c.args.season.now c.in-High.store c.args.numbers.now (c.requires.count ∙ ap (count_at c.args.season.now) c.in-High.is) (subst (λ p. IsTrue (are_in_range c.args.season.now p c.args.numbers.now)) c.in-High.is c.requires.range)
 
 pub returns-in-High : goal.returns-in-High
-returns-in-High c = rw c.in-High.is c.high_fault.ensures
+returns-in-High c = rw c.in-High.is c.path_values_fault-in-High.ensures
 
 pub value_line_fault-requires-clause-place : goal.value_line_fault-requires-clause-place
 value_line_fault-requires-clause-place c = subst (IsPlaceOf c.args.season.now) c.in-Value.is c.requires.place
