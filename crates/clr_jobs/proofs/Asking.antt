@@ -22,6 +22,7 @@ use Rattle.clr_path.specs.Tables.{path_rows, row_at, store_rows, value_at}
 use Rattle.clr_path.proofs.Lists.{get_or-numbers, length-numbers}
 use Rattle.clr_path.proofs.TableLemmas.{row_size, value_is}
 use Rattle.clr_storedp.specs.Tables.{Entry, IsTableOf, stocks, table_pairs, values_of}
+use Rattle.clr_storedp.proofs.ReadAt.{at_stock, in_stocks}
 use Rattle.clr_storedp.proofs.Sizes.{SmallMultipliers, swing, value_between}
 use Rattle.clr_cert.specs.Entries.{IsCell, IsLiveCell}
 use Rattle.clr_jobs.specs.Held.{HasPathValue}
@@ -82,17 +83,12 @@ store-asked div m season store table done s stock facts is cell =
     let early : done ≤ season.rules.weeks = cell.cell.early in
     let among : IsAmong (live_pairs season.rules) done s = ((live_pairs_lem season.rules facts.rules).pairs done s).1 (early, live) in
     let here : values_of table done s ≡ map (store_value_at div m season store live.0) (stocks season store) = subst₂ (λ n t. values_of table n t ≡ map (store_value_at div m season store live.0) (stocks season store)) live.1 live.3 (is.values live.0 live.2) in
-    let size : length (values_of table done s) ≡ suc (store_at season store).units = ap length here ∙ length-numbers (store_value_at div m season store live.0) 0 (suc (store_at season store).units) in
-    let held : stock ≤ (store_at season store).units = cell.cell.held in
-    (subst (λ pairs. IsAmong pairs done s) (sym is.pairs) among, subst (λ n. stock < n) (sym size) (omega arith))
+    (subst (λ pairs. IsAmong pairs done s) (sym is.pairs) among, in_stocks (store_value_at div m season store live.0) season store stock (values_of table done s) here cell.cell.held)
 
 -- which is the store's value after each live prefix with the summary
 pub store-told : (div : ℤ → ℕ → ℤ) (m : Multipliers) (season : Season) (store : ℕ) (table : List Entry) (prefix : List ℕ) (stock : ℕ) → IsTableOf div m season store table → IsTrue (is_live season.rules prefix) → stock ≤ (store_at season store).units →
     get_or (values_of table (length prefix) (summary season.rules prefix)) stock (pos 0) ≡ store_value_at div m season store prefix stock
-store-told div m season store table prefix stock is live held =
-    let none : 0 + stock ≡ stock = omega arith in
-    ap (λ row. get_or row stock (pos 0)) (is.values prefix live)
-    ∙ (get_or-numbers (store_value_at div m season store prefix) 0 (suc (store_at season store).units) stock (pos 0) (omega arith) ∙ ap (store_value_at div m season store prefix) none)
+store-told div m season store table prefix stock is live held = at_stock (store_value_at div m season store prefix) season store stock (values_of table (length prefix) (summary season.rules prefix)) (pos 0) (is.values prefix live) held
 
 -- and at most 10^18 in size
 store-small : (m : Multipliers) (season : Season) (i : ℕ) (prefix : List ℕ) (stock : ℕ) → IsSeason season → i < length season.stores → SmallMultipliers season m → is_live season.rules prefix ≡ true → stock ≤ (store_at season (suc i)).units →

@@ -6,3 +6,4 @@ pub mod Averages
 pub mod WeekRows
 pub mod TableLemmas
 pub mod Totals
+pub mod ReadAt

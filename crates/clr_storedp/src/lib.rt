@@ -8,8 +8,10 @@
 mod average;
 mod bounds;
 mod choice;
+mod laws;
 mod table;
 mod week;
 
 pub use bounds::{bound, tables};
+pub use laws::table_reads;
 pub use table::StoreTable;
