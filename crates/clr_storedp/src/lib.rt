@@ -7,7 +7,7 @@
 
 mod average;
 mod bounds;
-mod choice;
+mod payment;
 mod table;
 mod week;
 
