@@ -1,5 +1,5 @@
 -- A summary's value from the values after the week, over the rungs that lead to a live summary.
-use Rattle.std.proofs.Common.{◌≡◌, ℕ, ◌-◌, ◌^◌, ◌<◌, ◌≤◌, ℤ, neg_ℤ, true, sym, ap, ap₂, ◌∙◌, subst, arith, suc, List, [], ◌∷◌, ◌++◌, length, le_trans}
+use Rattle.std.proofs.Common.{◌≡◌, ℕ, ◌-◌, ◌^◌, ◌<◌, ◌≤◌, ℤ, pos, true, refl, sym, ap, ap₂, ◌∙◌, subst, subst₂, arith, suc, List, [], ◌∷◌, ◌++◌, length, le_trans}
 use mathlib.Core.Path.{fun_ext}
 use Rattle.std.proofs.Math.Nat.{pow-le-pow_right, pow-zero}
 use Rattle.std.specs.List.{AllByRecursion}
@@ -7,12 +7,11 @@ use Rattle.clr_num.specs.Direction.{IsDirection}
 use Rattle.clr_num.specs.Rounding.{floor}
 use Rattle.clr_num.specs.Sums.{first_best}
 use Rattle.clr_rules.specs.declared.season_rules.Summary.{Summary}
-use Rattle.clr_rules.specs.Rules.{is_live, live_rungs, next_summary, rungs, summary}
-use Rattle.clr_rules.specs.LiveSummaries.{is_live_summary, leads_at}
+use Rattle.clr_rules.specs.Rules.{Rulebook, is_live, live_rungs, next_summary, rungs, summary}
+use Rattle.clr_rules.specs.LiveSummaries.{is_live_summary}
 use Rattle.clr_rules.proofs.ListTests.{All-filter}
-use Rattle.clr_rules.proofs.LiveLemmas.{All-live_rungs, live-next, live-rung}
-use Rattle.clr_rules.proofs.LiveLists.{leads-live}
-use Rattle.clr_rules.proofs.SummaryLemmas.{live-keeps, summary-more}
+use Rattle.clr_rules.proofs.LiveLemmas.{live-rung}
+use Rattle.clr_rules.proofs.SummaryLemmas.{summary-more}
 use Rattle.clr_season.specs.Season.{Season, IsSeason}
 use Rattle.clr_model.specs.JointLaws.{SameJointValue}
 use Rattle.clr_model.specs.JointValue.{joint_rung_at, joint_rung_value, joint_value, joint_value_at}
@@ -23,11 +22,13 @@ use Rattle.clr_model.proofs.Abiding.{length_more}
 use Rattle.clr_model.proofs.Best.{best_value-same, first_best-same}
 use Rattle.clr_model.proofs.JointBySummary.{joint_value_by_summary_lem}
 use Rattle.clr_model.proofs.Sums.{All-imply}
-use Rattle.clr_rows.specs.Leads.{best_value, choice_so_far, lead_value, value_so_far}
-use Rattle.clr_rows.specs.Summaries.{summary_prefix}
+use Rattle.clr_rows.specs.Leads.{AreBestRows, best_value, choice_so_far, lead_value, value_so_far}
+use Rattle.clr_rows.specs.Rows.{AreRows}
+use Rattle.clr_rows.specs.Summaries.{live_week, summary_prefix}
 use Rattle.clr_rows.proofs.Bests.{best_some}
 use Rattle.clr_rows.proofs.Prefixes.{IsPrefixOf, live_summary_of, one_more, prefix_is, rungs_lead, some_leads}
-use Rattle.clr_joint.specs.BySummary.{average_into, by_place, costs, summary_choice, summary_value}
+use Rattle.clr_rows.proofs.WeekRows.{choices_by, values_by}
+use Rattle.clr_joint.specs.BySummary.{average_into, by_place, less_costs, summary_choice, summary_value}
 use Rattle.clr_joint.proofs.Costs.{average_apart}
 
 -- ---- a summary's value is that of each live prefix that has it
@@ -64,7 +65,7 @@ module _ (leans : ℤ → ℤ → Type 0) (div : ℤ → ℕ → ℤ) (laws : Is
   abbrev gives : ℕ → ℤ
   gives rung = joint_rung_value div season prefix rung stocks (λ rest. joint_value div season (season.rules.weeks - suc (length prefix)) (prefix ++ rung ∷ []) rest)
 
-  given : (rung : ℕ) → is_live season.rules (prefix ++ rung ∷ []) ≡ true → gives rung ≡ lead_value season.rules (by_place season (average_into div season done)) (λ before rung. neg_ℤ (costs season before rung)) s x rung
+  given : (rung : ℕ) → is_live season.rules (prefix ++ rung ∷ []) ≡ true → gives rung ≡ lead_value season.rules (by_place season (average_into div season done)) (less_costs season) s x rung
   given rung next =
       let range = live-rung season.rules prefix rung next in
       let long : length (prefix ++ rung ∷ []) ≡ suc done = length_more prefix rung ∙ ap suc of.long in
@@ -76,17 +77,33 @@ module _ (leans : ℤ → ℤ → Type 0) (div : ℤ → ℕ → ℤ) (laws : Is
       ∙ (ap₂ (λ n k. div (joint_weighed season n k rung stocks (λ week rest. summary_value div season (suc done) (next_summary season.rules s rung) rest)) (joint_base season)) of.long (ap (λ t. t.last) of.same)
       ∙ average_apart leans div laws season done s.last rung stocks (summary_value div season (suc done) (next_summary season.rules s rung)) is base_some early range.0 range.1)
 
-  agree : AllByRecursion (λ rung. gives rung ≡ lead_value season.rules (by_place season (average_into div season done)) (λ before rung. neg_ℤ (costs season before rung)) s x rung) (live_rungs season.rules prefix)
+  agree : AllByRecursion (λ rung. gives rung ≡ lead_value season.rules (by_place season (average_into div season done)) (less_costs season) s x rung) (live_rungs season.rules prefix)
   agree = All-imply (λ rung. is_live season.rules (prefix ++ rung ∷ []) ≡ true) _ (live_rungs season.rules prefix) given (All-filter (λ rung. is_live season.rules (prefix ++ rung ∷ [])) (rungs season.rules))
 
-  pub value_is : value_so_far season.rules done (by_place season (average_into div season done)) (λ before rung. neg_ℤ (costs season before rung)) s (length season.rules.prices) x ≡ summary_value div season done s stocks
+  pub value_is : value_so_far season.rules done (by_place season (average_into div season done)) (less_costs season) s (length season.rules.prices) x ≡ summary_value div season done s stocks
   value_is =
       sym (ap (λ n. joint_value div season n prefix stocks) (one_more season.rules.weeks (length prefix) (subst (λ n. suc n ≤ season.rules.weeks) (sym of.long) early))
-      ∙ (best_value-same gives (lead_value season.rules (by_place season (average_into div season done)) (λ before rung. neg_ℤ (costs season before rung)) s x) 1 (live_rungs season.rules prefix) (some_leads season.rules done s prefix of early) agree
-      ∙ (best_some (lead_value season.rules (by_place season (average_into div season done)) (λ before rung. neg_ℤ (costs season before rung)) s x) (live_rungs season.rules prefix) (some_leads season.rules done s prefix of early)
-      ∙ ap (best_value (lead_value season.rules (by_place season (average_into div season done)) (λ before rung. neg_ℤ (costs season before rung)) s x)) (rungs_lead season.rules done s prefix of))))
+      ∙ (best_value-same gives (lead_value season.rules (by_place season (average_into div season done)) (less_costs season) s x) 1 (live_rungs season.rules prefix) (some_leads season.rules done s prefix of early) agree
+      ∙ (best_some (lead_value season.rules (by_place season (average_into div season done)) (less_costs season) s x) (live_rungs season.rules prefix) (some_leads season.rules done s prefix of early)
+      ∙ ap (best_value (lead_value season.rules (by_place season (average_into div season done)) (less_costs season) s x)) (rungs_lead season.rules done s prefix of))))
 
-  pub choice_is : choice_so_far season.rules done (by_place season (average_into div season done)) (λ before rung. neg_ℤ (costs season before rung)) s (length season.rules.prices) x ≡ summary_choice div season done s stocks
+  pub choice_is : choice_so_far season.rules done (by_place season (average_into div season done)) (less_costs season) s (length season.rules.prices) x ≡ summary_choice div season done s stocks
   choice_is =
-      sym ((first_best-same gives (lead_value season.rules (by_place season (average_into div season done)) (λ before rung. neg_ℤ (costs season before rung)) s x) 1 (live_rungs season.rules prefix) agree).0
-      ∙ ap (first_best (lead_value season.rules (by_place season (average_into div season done)) (λ before rung. neg_ℤ (costs season before rung)) s x) 1) (rungs_lead season.rules done s prefix of))
+      sym ((first_best-same gives (lead_value season.rules (by_place season (average_into div season done)) (less_costs season) s x) 1 (live_rungs season.rules prefix) agree).0
+      ∙ ap (first_best (lead_value season.rules (by_place season (average_into div season done)) (less_costs season) s x) 1) (rungs_lead season.rules done s prefix of))
+
+-- ---- the rows of a week
+
+-- the best rows of the averages are the rows of the summaries' values and choices
+module _ (leans : ℤ → ℤ → Type 0) (div : ℤ → ℕ → ℤ) (laws : IsDirection leans div) (season : Season) (done width : ℕ) (is : IsSeason season) (early : done < season.rules.weeks) (rules : Rulebook)
+    (averages rows : List ℤ) (chosen : List ℕ) (count : ℕ) (rules_is : rules ≡ season.rules) (count_is : count ≡ length (live_week season.rules done))
+    (are : AreRows (pos 0) width (live_week season.rules (suc done)) (length (live_week season.rules (suc done))) (by_place season (average_into div season done)) averages) (best : AreBestRows rules done width averages (less_costs season) count rows chosen) where
+  pub values_are : AreRows (pos 0) width (live_week season.rules done) (length (live_week season.rules done)) (by_place season (summary_value div season done)) rows
+  values_are =
+      values_by rules season.rules done width count averages rows chosen (less_costs season) (by_place season (average_into div season done)) rules_is (omega (arith, early)) count_is are best (by_place season (summary_value div season done))
+      (λ s x live. value_is leans div laws season done x s is early live)
+
+  pub choices_are : AreRows 0 width (live_week season.rules done) (length (live_week season.rules done)) (by_place season (summary_choice div season done)) chosen
+  choices_are =
+      choices_by rules season.rules done width count averages rows chosen (less_costs season) (by_place season (average_into div season done)) rules_is (omega (arith, early)) count_is are best (by_place season (summary_choice div season done))
+      (λ s x live. choice_is leans div laws season done x s is early live)

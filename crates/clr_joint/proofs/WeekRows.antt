@@ -1,5 +1,5 @@
 -- The rows of a week of all stores.
-use Rattle.std.proofs.Common.{◌≡◌, ℕ, zero, suc, ◌+◌, ◌-◌, ◌*◌, ◌^◌, ◌<◌, ◌≤◌, ℤ, pos, neg_ℤ, ◌+ℤ◌, ◌≤ℤ◌, true, List, [], ◌∷◌, ◌++◌, length, get_or, slice_get, Some, ap, sym, ◌∙◌, subst, arith, le_trans, length-append, below_more, mul-le-mul, mul-le-mul_left}
+use Rattle.std.proofs.Common.{◌≡◌, ℕ, zero, suc, ◌+◌, ◌-◌, ◌*◌, ◌^◌, ◌<◌, ◌≤◌, ℤ, pos, neg_ℤ, ◌+ℤ◌, ◌≤ℤ◌, true, List, [], ◌∷◌, ◌++◌, length, get_or, slice_get, Some, refl, ap, sym, ◌∙◌, subst, subst₂, arith, le_trans, length-append, mul-le-mul, mul-le-mul_left}
 use Rattle.std.proofs.Math.Nat.{pow-le-pow_right, pow-zero}
 use Rattle.std.proofs.lemmas.Option.{slice_get-get_or}
 use Rattle.clr_num.specs.Direction.{IsDirection}
@@ -7,6 +7,7 @@ use Rattle.clr_num.specs.Sums.{sum_of}
 use Rattle.clr_stock.specs.Stock.{no_store}
 use Rattle.clr_rules.specs.declared.season_rules.Summary.{Summary}
 use Rattle.clr_rules.specs.LiveSummaries.{is_live_summary}
+use Rattle.clr_rules.specs.Rules.{Rulebook}
 use Rattle.clr_season.specs.Season.{Season, IsSeason, store_at}
 use Rattle.clr_average.specs.Average.{IsWithin}
 use Rattle.clr_average.proofs.Ring.{linear}
@@ -19,7 +20,7 @@ use Rattle.clr_rows.specs.Summaries.{live_week, summary_prefix}
 use Rattle.clr_rows.specs.Rows.{AreRows, AreWithin, WeekRows}
 use Rattle.clr_rows.proofs.Lists.{each_more}
 use Rattle.clr_rows.proofs.Prefixes.{prefix_is}
-use Rattle.clr_rows.proofs.WeekRows.{in_some_row, live_at}
+use Rattle.clr_rows.proofs.WeekRows.{ends_by, in_some_row, live_at}
 use Rattle.clr_joint.specs.BySummary.{by_place, summary_value}
 use Rattle.clr_model.specs.Stocks.{lists_of, stocks_at}
 use Rattle.clr_joint.specs.Weeks.{AreWeeks, IsWeek}
@@ -95,6 +96,12 @@ end_is div season s stocks live =
     let of = prefix_is season.rules season.rules.weeks s live in
     let none : 0 ≡ season.rules.weeks - length (summary_prefix season.rules season.rules.weeks s) = omega (arith, of.long) in
     ap (λ n. joint_value div season n (summary_prefix season.rules season.rules.weeks s) stocks) none
+
+pub ends_are : (div : ℤ → ℕ → ℤ) (season : Season) (rules : Rulebook) (row items : List ℤ) → rules ≡ season.rules → length row ≡ lists_of (full_stocks season) → ((x : ℕ) → x < lists_of (full_stocks season) → get_or row x (pos 0) ≡ end_value season (stocks_at (full_stocks season) x)) →
+    AreRows (pos 0) (length row) (live_week rules rules.weeks) (length (live_week rules rules.weeks)) (λ s x. get_or row x (pos 0)) items →
+    AreRows (pos 0) (lists_of (full_stocks season)) (live_week season.rules season.rules.weeks) (length (live_week season.rules season.rules.weeks)) (by_place season (summary_value div season season.rules.weeks)) items
+ends_are div season rules row items rules_is size worth are =
+    ends_by rules season.rules (lists_of (full_stocks season)) row items (by_place season (summary_value div season season.rules.weeks)) rules_is size are (λ s x live lt. worth x lt ∙ end_is div season s (stocks_at (full_stocks season) x) live)
 
 -- ---- one week more
 

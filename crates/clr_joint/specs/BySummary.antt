@@ -1,5 +1,5 @@
 -- The values of all stores together by summary, through a prefix that has it.
-use Rattle.std.specs.Prelude.{ℕ, suc, ◌*◌, ◌-◌, ℤ, pos, List, [], ◌∷◌, ◌++◌, length}
+use Rattle.std.specs.Prelude.{ℕ, suc, ◌*◌, ◌-◌, ℤ, pos, neg_ℤ, List, [], ◌∷◌, ◌++◌, length}
 use Rattle.clr_num.specs.Sums.{first_best}
 use Rattle.clr_rules.specs.declared.season_rules.Summary.{Summary}
 use Rattle.clr_rules.specs.Rules.{live_rungs}
@@ -26,6 +26,10 @@ average_into div season done s stocks = div (joint_weighed season done s.last s.
 -- what all stores pay for a rung after another
 abbrev pub costs : Season → ℕ → ℕ → ℤ
 costs season before rung = sum_stores season (λ store. pos (cent * fee season store before rung))
+
+-- what is added to the averages for a rung after another: their costs, taken off
+abbrev pub less_costs : Season → ℕ → ℕ → ℤ
+less_costs season before rung = neg_ℤ (costs season before rung)
 
 -- ---- by the place of a list of stocks
 

@@ -1,5 +1,5 @@
 -- What a table gives at each live prefix and list of stocks.
-use Rattle.std.specs.Prelude.{◌≡◌, ℕ, ◌<◌, ℤ, pos, List, length, IsTrue}
+use Rattle.std.specs.Prelude.{◌≡◌, ℕ, ◌<◌, pos, List, length, IsTrue}
 use Rattle.clr_rules.specs.LiveSummaries.{IsAmong}
 use Rattle.clr_rules.specs.Rules.{is_live, summary}
 use Rattle.clr_season.specs.Season.{Season, IsSeason}

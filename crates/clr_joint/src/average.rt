@@ -7,7 +7,7 @@ ghost use Rattle.clr_model.specs.Revenue.{full_stocks};
 ghost use Rattle.clr_season.specs.Season.{IsSeason};
 ghost use Rattle.clr_rows.specs.Rows.{AreRows, AreWithin};
 ghost use Rattle.clr_rows.specs.Summaries.{live_week};
-ghost use Rattle.std.specs.Prelude.{◌≡◌, ℕ, suc, ◌<◌, ◌≤◌, ◌+◌, ◌*◌, ℤ, pos, length, get_or, IfOk, IsTrue};
+ghost use Rattle.std.specs.Prelude.{◌≡◌, ℕ, suc, ◌<◌, ◌≤◌, ◌*◌, pos, length, get_or, IfOk, IsTrue};
 
 use crate::fold::fold_row;
 use clr_num::{Direction, Divisor};

@@ -4,7 +4,7 @@ ghost use Rattle.clr_model.specs.Fits.{fits};
 ghost use Rattle.clr_model.specs.JointValue.{end_value};
 ghost use Rattle.clr_model.specs.Revenue.{full_stocks};
 ghost use Rattle.clr_rows.specs.Rows.{AreWithin};
-ghost use Rattle.std.specs.Prelude.{◌≡◌, ℕ, suc, ◌<◌, ◌≤◌, ◌+◌, ◌*◌, ◌/◌, ◌%◌, ℤ, pos, ◌+ℤ◌, length, get_or, IfOk, IsTrue};
+ghost use Rattle.std.specs.Prelude.{◌≡◌, ℕ, ◌<◌, ◌≤◌, ◌+◌, ◌*◌, ◌/◌, ◌%◌, ℤ, pos, ◌+ℤ◌, length, get_or, IfOk, IsTrue};
 
 use clr_model::CENT;
 use clr_season::Season;

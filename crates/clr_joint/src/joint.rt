@@ -11,7 +11,7 @@ ghost use Rattle.clr_rules.specs.LiveSummaries.{IsAmong, live_pairs};
 ghost use Rattle.clr_rules.specs.Rules.{summary};
 ghost use Rattle.clr_season.specs.Season.{IsSeason};
 ghost use Rattle.clr_rows.specs.Rows.{row_at, week_at};
-ghost use Rattle.std.specs.Prelude.{◌≡◌, ℕ, ◌+◌, ◌-◌, ◌*◌, ◌<◌, ◌≤◌, ◌^◌, ℤ, pos, ◌+ℤ◌, ◌≤ℤ◌, [], length, get_or, IfOk, IsTrue};
+ghost use Rattle.std.specs.Prelude.{◌≡◌, ◌+◌, ◌-◌, ◌*◌, ◌<◌, ◌≤◌, ◌^◌, ℤ, pos, ◌+ℤ◌, ◌≤ℤ◌, [], length, get_or, IfOk, IsTrue};
 
 use crate::week::weeks;
 use clr_num::{Down, Up};

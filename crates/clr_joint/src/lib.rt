@@ -6,11 +6,11 @@
 #![tactic(auto)]
 
 mod average;
-mod choice;
 mod end;
 mod fold;
 mod joint;
 mod laws;
+mod payment;
 mod week;
 
 pub use joint::Joint;

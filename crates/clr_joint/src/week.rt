@@ -1,21 +1,18 @@
 // One week of a table of all stores.
-ghost use Rattle.clr_joint.specs.BySummary.{average_into, by_place, summary_choice, summary_value};
 ghost use Rattle.clr_model.specs.Stocks.{lists_of};
 ghost use Rattle.clr_joint.specs.Weeks.{AreWeeks, IsWeek};
 ghost use Rattle.clr_model.specs.Fits.{fits};
 ghost use Rattle.clr_model.specs.Revenue.{full_stocks};
 ghost use Rattle.clr_rules.specs.LiveSummaries.{live_pairs};
 ghost use Rattle.clr_season.specs.Season.{IsSeason};
-ghost use Rattle.clr_rows.specs.Rows.{AreRows, AreWithin};
-ghost use Rattle.clr_rows.specs.Summaries.{live_week};
-ghost use Rattle.std.specs.Prelude.{◌≡◌, ℕ, suc, ◌<◌, ℤ, pos, length, IfOk, IsTrue};
+ghost use Rattle.std.specs.Prelude.{◌≡◌, suc, ◌<◌, IfOk, IsTrue};
 
 use crate::average::average_rows;
-use crate::choice::best_row;
 use crate::end::end_row;
+use crate::payment::Payment;
 use clr_num::Direction;
-use clr_rows::{Week, week_list};
-use clr_rules::{Live, Summary};
+use clr_rows::{Week, best_rows, end_rows, week_list};
+use clr_rules::Live;
 use clr_season::Season;
 use std::alloc::{AllocError, Global};
 
@@ -27,43 +24,7 @@ fn end_week<R: Direction>(alloc: Global, season: &Season, live: &Live) -> Result
     ensures { IfOk result (λ week. IsWeek R.quotient season.now season.now.rules.weeks week) }
 {
     let row = end_row(alloc, season)?;
-    let list = week_list(alloc, live, season.weeks())?;
-    let mut values = Vec::with_capacity(alloc, list.len().saturating_mul(row.len()))?;
-    for place in 0..list.len() {
-        values.extend_from_slice(&row)?;
-    }
-    Ok(Week::new(values, Vec::new(alloc)))
-}
-
-/// The rows of a week from the averages of the week that follows.
-fn best_rows<R: Direction>(
-    alloc: Global,
-    season: &Season,
-    live: &Live,
-    done: u32,
-    width: usize,
-    list: &[Summary],
-    averages: &[i64],
-) -> Result<Week, AllocError>
-    requires early { done < season.now.rules.weeks }
-    requires live { live.now ≡ live_pairs season.now.rules }
-    requires width { width ≡ lists_of (full_stocks season.now) }
-    requires list { list.now ≡ live_week season.now.rules done }
-    requires averages { AreRows (pos 0) width (live_week season.now.rules (suc done)) (length (live_week season.now.rules (suc done))) (by_place season.now (average_into R.quotient season.now done)) averages.now }
-    requires within { AreWithin 2000000000000000000 averages.now }
-    ensures values { IfOk result (λ week. AreRows (pos 0) width list.now (length list.now) (by_place season.now (summary_value R.quotient season.now done)) week.values) }
-    ensures choices { IfOk result (λ week. AreRows 0 width list.now (length list.now) (by_place season.now (summary_choice R.quotient season.now done)) week.choices) }
-{
-    let mut values = Vec::with_capacity(alloc, list.len().saturating_mul(width))?;
-    let mut choices = Vec::with_capacity(alloc, list.len().saturating_mul(width))?;
-    let mut row = vec![in alloc; 0; width]?;
-    let mut chosen = vec![in alloc; 1; width]?;
-    for s in list {
-        best_row::<R>(season, live, done, *s, averages, &mut row, &mut chosen);
-        values.extend_from_slice(&row)?;
-        choices.extend_from_slice(&chosen)?;
-    }
-    Ok(Week::new(values, choices))
+    end_rows(alloc, season.rules(), live, &row)
 }
 
 /// The rows of a week from those of the week after it.
@@ -86,7 +47,17 @@ fn earlier_week<R: Direction>(
     let next = week_list(alloc, live, done + 1)?;
     let averages = average_rows::<R>(alloc, season, done, width, &next, after.values())?;
     let list = week_list(alloc, live, done)?;
-    best_rows::<R>(alloc, season, live, done, width, &list, &averages)
+    let payment = Payment { season };
+    best_rows(
+        alloc,
+        season.rules(),
+        live,
+        &payment,
+        done,
+        width,
+        &list,
+        &averages,
+    )
 }
 
 /// The rows of all weeks, from the end of the season back. `width` is the number of lists of stocks.

@@ -1,5 +1,5 @@
 -- The rows of a week, summary by summary.
-use Rattle.std.proofs.Common.{◌≡◌, ℕ, zero, suc, ◌+◌, ◌-◌, ◌*◌, ◌<◌, ◌≤◌, true, List, [], ◌∷◌, ◌++◌, length, take, length-append, ap₂, Option, inl, inr, get_or, slice_get, Some, ap, sym, ◌∙◌, subst, arith, add-mul}
+use Rattle.std.proofs.Common.{◌≡◌, ℕ, zero, suc, ◌+◌, ◌-◌, ◌*◌, ◌<◌, ◌≤◌, ℤ, pos, true, List, [], ◌∷◌, ◌++◌, length, take, length-append, ap₂, Option, inl, inr, get_or, slice_get, Some, ap, sym, ◌∙◌, subst, arith, add-mul, Result, Ok, Err, IfOk, refl, subst₂}
 use Rattle.std.proofs.lemmas.Bool.{cases_lt}
 use Rattle.std.proofs.lemmas.List.{take_all, take_more}
 use Rattle.std.proofs.lemmas.Option.{slice_get-get_or, slice_get_cases}
@@ -9,7 +9,8 @@ use Rattle.clr_rules.specs.Rules.{IsRulebook, Rulebook}
 use Rattle.clr_rules.proofs.LiveLaw.{week_is}
 use Rattle.clr_rules.proofs.LiveLists.{in_range, live-reached}
 use Rattle.clr_rules.proofs.Sweeps.{in_filter}
-use Rattle.clr_rows.specs.Rows.{AreRows}
+use Rattle.clr_rows.specs.Leads.{AreBestRows, IsBestSoFar, choice_so_far, value_so_far}
+use Rattle.clr_rows.specs.Rows.{AreRows, WeekRows}
 use Rattle.clr_rows.specs.Summaries.{AreOnLadder, live_week}
 use Rattle.clr_rows.proofs.Lists.{got, got_inside, rows_more, size_more}
 
@@ -66,3 +67,54 @@ pub on_ladder : (rules : Rulebook) (done : ℕ) → IsRulebook rules → done �
 on_ladder rules done is early place s at =
     let range = in_range rules done s is early (live-reached rules done s (live_at rules done place s early at)) in
     (range.low, range.high)
+
+-- ---- the best rows, one by one
+
+pub best_more : (rules : Rulebook) (done width old index : ℕ) (averages rows row : List ℤ) (chosen taken : List ℕ) (more : ℕ → ℕ → ℤ) (list : List Summary) (now : Summary) → list ≡ live_week rules done → AreBestRows rules done width averages more index rows chosen → length row ≡ width →
+    length taken ≡ width → old ≡ width → ((s : Summary) → slice_get list index ≡ Some s → now ≡ s) → IsBestSoFar rules done old averages more now (length rules.prices) row taken → AreBestRows rules done width averages more (index + 1) (rows ++ row) (chosen ++ taken)
+best_more rules done width old index averages rows row chosen taken more list now is so_far size chosen_size old_is at_now best =
+    let here : IsBestSoFar rules done width averages more now (length rules.prices) row taken = subst (λ w. IsBestSoFar rules done w averages more now (length rules.prices) row taken) old_is best in
+    record {
+      values = λ f are.
+          row_more (pos 0) width (live_week rules done) index (λ s. value_so_far rules done f more s (length rules.prices)) rows row (so_far.values f are) size
+          (λ s at x low. here.values f are x low ∙ ap (λ t. value_so_far rules done f more t (length rules.prices) x) (at_now s (ap (λ (l : List Summary). slice_get l index) is ∙ at)));
+      choices = λ f are.
+          row_more 0 width (live_week rules done) index (λ s. choice_so_far rules done f more s (length rules.prices)) chosen taken (so_far.choices f are) chosen_size
+          (λ s at x low. here.choices f are x low ∙ ap (λ t. choice_so_far rules done f more t (length rules.prices) x) (at_now s (ap (λ (l : List Summary). slice_get l index) is ∙ at)));
+    }
+
+-- ---- what a week's rows are of
+
+-- the best rows of averages are the rows of what the values and the choices by all rungs are
+module _ (book rules : Rulebook) (done width count : ℕ) (averages rows : List ℤ) (chosen : List ℕ) (more : ℕ → ℕ → ℤ) (f : Summary → ℕ → ℤ) (book_is : book ≡ rules) (early : done ≤ rules.weeks) (count_is : count ≡ length (live_week rules done))
+    (are : AreRows (pos 0) width (live_week rules (suc done)) (length (live_week rules (suc done))) f averages) (best : AreBestRows book done width averages more count rows chosen) where
+  all : AreBestRows rules done width averages more (length (live_week rules done)) rows chosen
+  all = subst₂ (λ r n. AreBestRows r done width averages more n rows chosen) book_is count_is best
+
+  pub values_by : (g : Summary → ℕ → ℤ) → ((s : Summary) (x : ℕ) → is_live_summary rules done s ≡ true → value_so_far rules done f more s (length rules.prices) x ≡ g s x) → AreRows (pos 0) width (live_week rules done) (length (live_week rules done)) g rows
+  values_by g same =
+      rows_as (pos 0) width (live_week rules done) (live_week rules done) (length (live_week rules done)) (λ s. value_so_far rules done f more s (length rules.prices)) g rows (all.values f are) refl
+      (λ place s at x lt. same s x (live_at rules done place s early at))
+
+  pub choices_by : (g : Summary → ℕ → ℕ) → ((s : Summary) (x : ℕ) → is_live_summary rules done s ≡ true → choice_so_far rules done f more s (length rules.prices) x ≡ g s x) → AreRows 0 width (live_week rules done) (length (live_week rules done)) g chosen
+  choices_by g same =
+      rows_as 0 width (live_week rules done) (live_week rules done) (length (live_week rules done)) (λ s. choice_so_far rules done f more s (length rules.prices)) g chosen (all.choices f are) refl
+      (λ place s at x lt. same s x (live_at rules done place s early at))
+
+-- and so are the rows at the end
+pub ends_by : (book rules : Rulebook) (width : ℕ) (row items : List ℤ) (g : Summary → ℕ → ℤ) → book ≡ rules → length row ≡ width → AreRows (pos 0) (length row) (live_week book book.weeks) (length (live_week book book.weeks)) (λ s x. get_or row x (pos 0)) items →
+    ((s : Summary) (x : ℕ) → is_live_summary rules rules.weeks s ≡ true → x < width → get_or row x (pos 0) ≡ g s x) → AreRows (pos 0) width (live_week rules rules.weeks) (length (live_week rules rules.weeks)) g items
+ends_by book rules width row items g book_is size are same =
+    rows_as (pos 0) width (live_week rules rules.weeks) (live_week rules rules.weeks) (length (live_week rules rules.weeks)) (λ s x. get_or row x (pos 0)) g items
+    (subst₂ (λ n (r : Rulebook). AreRows (pos 0) n (live_week r r.weeks) (length (live_week r r.weeks)) (λ s x. get_or row x (pos 0)) items) size book_is are) refl
+    (λ place s at x lt. same s x (live_at rules rules.weeks place s (omega arith) at) lt)
+
+-- ---- what holds of a week where it was made
+
+pub both : {E : Type 0} (r : Result WeekRows E) (P Q R : WeekRows → Type 0) → IfOk r P → IfOk r Q → ((week : WeekRows) → P week → Q week → R week) → IfOk r R
+both (Ok week) P Q R p q h = h week p q
+both (Err e) P Q R p q h = tt
+
+pub mapped : {E : Type 0} (r : Result WeekRows E) (P R : WeekRows → Type 0) → IfOk r P → ((week : WeekRows) → P week → R week) → IfOk r R
+mapped (Ok week) P R p h = h week p
+mapped (Err e) P R p h = tt

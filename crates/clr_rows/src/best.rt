@@ -1,5 +1,5 @@
 // The greatest of values, and the first choice that attains it.
-ghost use Rattle.std.specs.Prelude.{◌≡◌, ℕ, ◌<◌, pos, ◌+ℤ◌, int_lt, if◌then◌else◌, length, get_or, EachIndex};
+ghost use Rattle.std.specs.Prelude.{◌≡◌, ◌<◌, pos, ◌+ℤ◌, int_lt, if◌then◌else◌, length, get_or, EachIndex};
 ghost use Rattle.clr_average.specs.Average.{IsWithin};
 ghost use Rattle.clr_rows.specs.Rows.{AreWithin};
 

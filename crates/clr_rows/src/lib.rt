@@ -7,10 +7,11 @@
 
 mod best;
 mod rows;
+mod step;
 mod summaries;
 mod week;
 
-pub use best::{LOWEST, raise_row};
 pub use rows::{reach_of, row_of};
-pub use summaries::{lead, week_list};
-pub use week::Week;
+pub use step::{Added, best_rows};
+pub use summaries::week_list;
+pub use week::{Week, end_rows};

@@ -1,6 +1,5 @@
 // Rows of one width, one after another.
-ghost use Rattle.std.specs.Prelude.{◌≡◌, ℕ, ◌≤◌, ◌*◌, ◌+◌, pos, length, get_or, EachIndex};
-ghost use Rattle.clr_average.specs.Average.{IsWithin};
+ghost use Rattle.std.specs.Prelude.{◌≡◌, ◌≤◌, ◌*◌, ◌+◌, length};
 ghost use Rattle.clr_rows.specs.Rows.{AreWithin, row_at};
 
 /// The row at a place, counted from 0.

@@ -1,5 +1,5 @@
 // The live summaries after so many weeks, and where rungs lead from them.
-ghost use Rattle.std.specs.Prelude.{◌≡◌, ℕ, suc, ◌≤◌, ◌<◌, ◌+◌, IsTrue, true, false, length, slice_get, Some, IfOk, MatchOption};
+ghost use Rattle.std.specs.Prelude.{◌≡◌, suc, ◌≤◌, ◌<◌, ◌+◌, IsTrue, true, false, length, slice_get, Some, IfOk, MatchOption};
 ghost use Rattle.clr_rules.specs.LiveSummaries.{at_week, is_live_summary, leads_at, live_pairs};
 ghost use Rattle.clr_rules.specs.Rules.{IsRulebook, next_summary};
 

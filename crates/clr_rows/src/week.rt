@@ -1,6 +1,11 @@
 // The rows of one week.
-ghost use Rattle.std.specs.Prelude.{◌≡◌};
+ghost use Rattle.std.specs.Prelude.{◌≡◌, pos, [], length, get_or, IfOk};
+ghost use Rattle.clr_rows.specs.Rows.{AreRows};
+ghost use Rattle.clr_rows.specs.Summaries.{live_week};
+ghost use Rattle.clr_rules.specs.LiveSummaries.{live_pairs};
 
+use clr_rules::{Live, Rules};
+use std::alloc::{AllocError, Global};
 use std::marker::Model;
 
 /// The rows of one week, one for each live summary: the values at the places of a row and, where a week is to come, the
@@ -41,4 +46,21 @@ impl Week {
     {
         &self.choices
     }
+}
+
+/// The rows at the end of the season: one row, the same for all live summaries, and no choices.
+///
+/// # Errors
+/// Where memory is wanting.
+pub fn end_rows(alloc: Global, rules: &Rules, live: &Live, row: &[i64]) -> Result<Week, AllocError>
+    requires { live.now ≡ live_pairs rules.now }
+    ensures values { IfOk result (λ week. AreRows (pos 0) (length row.now) (live_week rules.now rules.now.weeks) (length (live_week rules.now rules.now.weeks)) (λ s x. get_or row.now x (pos 0)) week.values) }
+    ensures choices { IfOk result (λ week. week.choices ≡ []) }
+{
+    let count = live.count(rules.weeks()) as usize;
+    let mut values = Vec::with_capacity(alloc, count.saturating_mul(row.len()))?;
+    for place in 0..count {
+        values.extend_from_slice(row)?;
+    }
+    Ok(Week::new(values, Vec::new(alloc)))
 }

@@ -1,23 +1,20 @@
 -- A table's entries, and the rows that they are made of.
-use Rattle.std.proofs.Common.{◌≡◌, ℕ, zero, suc, ◌+◌, ◌-◌, ◌*◌, ◌<◌, ◌≤◌, ◌==◌, ◌&&◌, ◌||◌, Bool, true, false, cond, ℤ, pos, List, [], ◌∷◌, length, map, get_or, slice_get, take, drop, Option, Some, unwrap_or, refl, ap, ap₂, sym, ◌∙◌, subst, subst₂, arith, nat_lt, ◌++◌, inl, inr, add-mul, below_more, length-append}
-use Rattle.std.proofs.Math.ListN.{get_or-append}
+use Rattle.std.proofs.Common.{◌≡◌, ℕ, suc, ◌+◌, ◌-◌, ◌*◌, ◌<◌, ◌≤◌, ◌==◌, ◌&&◌, ◌||◌, Bool, true, false, cond, ℤ, pos, List, [], ◌∷◌, length, map, get_or, slice_get, Option, Some, refl, ap, ap₂, sym, ◌∙◌, subst, subst₂, arith, nat_lt, ◌++◌, inl, inr, length-append}
 use mathlib.Core.Path.{fun_ext}
 use Rattle.std.proofs.lemmas.Bool.{and_parts, cases_lt, eqb-true, ltb-true, ltb-false}
-use Rattle.std.proofs.lemmas.List.{ext_get_or, get_or-append-add}
-use Rattle.std.specs.List.{filter, find, list_any}
+use Rattle.std.specs.List.{find, list_any}
 use Rattle.std.specs.Option.{option_map_or}
 use Rattle.clr_num.specs.Lists.{numbers}
 use Rattle.clr_rules.specs.declared.season_rules.Summary.{Summary}
 use Rattle.clr_rules.specs.Rules.{IsRulebook, is_live, summary}
-use Rattle.clr_rules.specs.LiveSummaries.{IsAmong, IsIn, at_week, live_pairs, same_summary}
+use Rattle.clr_rules.specs.LiveSummaries.{IsAmong, at_week, live_pairs, same_summary}
 use Rattle.clr_rules.proofs.LiveLaw.{live_pairs_lem}
 use Rattle.clr_rules.proofs.LiveLemmas.{live-length}
-use Rattle.clr_rules.proofs.LiveLists.{same_is, same_self}
+use Rattle.clr_rules.proofs.LiveLists.{same_is}
 use Rattle.clr_season.specs.Season.{Season, store_at}
-use Rattle.clr_average.specs.Average.{IsWithin}
 use Rattle.clr_model.specs.StoreValue.{Multipliers, store_choice_at}
 use Rattle.clr_storedp.specs.BySummary.{summary_choice, summary_value}
-use Rattle.clr_rows.specs.Rows.{AreRows, AreWithin, IsInside, WeekRows, place_of, row_at, week_at}
+use Rattle.clr_rows.specs.Rows.{IsInside, WeekRows, place_of, row_at, week_at}
 use Rattle.clr_storedp.specs.Rows.{entries_of, entry_of}
 use Rattle.clr_storedp.specs.Tables.{Entry, IsTableOf, choices_of, stocks, table_pairs, values_of}
 use Rattle.clr_rows.specs.Summaries.{live_week}

@@ -1,9 +1,10 @@
 -- The rows of a week, summary by summary.
-use Rattle.std.proofs.Common.{◌≡◌, ℕ, zero, suc, ◌+◌, ◌-◌, ◌*◌, ◌<◌, ◌≤◌, ℤ, pos, neg_ℤ, ◌+ℤ◌, ◌*ℤ◌, ◌≤ℤ◌, true, List, [], ◌∷◌, ◌++◌, length, take, length-append, ap₂, Option, inl, inr, get_or, slice_get, Some, ap, sym, ◌∙◌, subst, arith, add-mul, mul-le-mul_left}
+use Rattle.std.proofs.Common.{◌≡◌, ℕ, zero, suc, ◌+◌, ◌-◌, ◌*◌, ◌<◌, ◌≤◌, ℤ, pos, neg_ℤ, ◌+ℤ◌, ◌*ℤ◌, ◌≤ℤ◌, true, List, length, get_or, slice_get, Some, refl, ap, sym, ◌∙◌, subst, subst₂, arith, mul-le-mul_left}
 use Rattle.std.proofs.lemmas.Option.{slice_get-get_or}
 use Rattle.clr_num.specs.Direction.{IsDirection}
 use Rattle.clr_rules.specs.declared.season_rules.Summary.{Summary}
 use Rattle.clr_rules.specs.LiveSummaries.{is_live_summary}
+use Rattle.clr_rules.specs.Rules.{Rulebook}
 use Rattle.clr_season.specs.Season.{Season, IsPlace, IsSeason, demands, store_at, weight}
 use Rattle.clr_average.specs.Average.{IsWithin}
 use Rattle.clr_average.proofs.Ring.{linear}
@@ -20,7 +21,7 @@ use Rattle.clr_storedp.specs.Rows.{AreAverages}
 use Rattle.clr_storedp.specs.Tables.{AreOfSeason, AreSmall}
 use Rattle.clr_rows.proofs.Lists.{get_or-row_at}
 use Rattle.clr_rows.proofs.Prefixes.{prefix_is}
-use Rattle.clr_rows.proofs.WeekRows.{in_some_row, live_at, on_ladder}
+use Rattle.clr_rows.proofs.WeekRows.{ends_by, in_some_row, live_at, on_ladder}
 use Rattle.clr_storedp.proofs.Sizes.{IsBetween, SmallMultipliers, average_high, average_low, swing, value_between}
 
 -- ---- multipliers
@@ -121,3 +122,9 @@ end_value div m season store s stock live =
     let of = prefix_is season.rules season.rules.weeks s live in
     let none : 0 ≡ season.rules.weeks - length (summary_prefix season.rules season.rules.weeks s) = omega (arith, of.long) in
     ap (λ n. store_value div m season store n (summary_prefix season.rules season.rules.weeks s) stock) none
+
+pub ends_are : (div : ℤ → ℕ → ℤ) (m : Multipliers) (season : Season) (store width : ℕ) (rules : Rulebook) (row items : List ℤ) → rules ≡ season.rules → length row ≡ width → ((stock : ℕ) → stock < width → get_or row stock (pos 0) ≡ pos cent *ℤ salvage_cents season store stock) →
+    AreRows (pos 0) (length row) (live_week rules rules.weeks) (length (live_week rules rules.weeks)) (λ s x. get_or row x (pos 0)) items →
+    AreRows (pos 0) width (live_week season.rules season.rules.weeks) (length (live_week season.rules season.rules.weeks)) (summary_value div m season store season.rules.weeks) items
+ends_are div m season store width rules row items rules_is size worth are =
+    ends_by rules season.rules width row items (summary_value div m season store season.rules.weeks) rules_is size are (λ s x live lt. worth x lt ∙ end_value div m season store s x live)

@@ -1,26 +1,27 @@
 -- A summary's value from the values after the week, over the rungs that lead to a live summary.
-use Rattle.std.proofs.Common.{◌≡◌, ℕ, ◌-◌, ◌<◌, ◌≤◌, ℤ, ◌+ℤ◌, Bool, true, refl, sym, ap, ap₂, ◌∙◌, subst, arith, suc, List, [], ◌∷◌, ◌++◌, length}
+use Rattle.std.proofs.Common.{◌≡◌, ℕ, ◌-◌, ◌<◌, ◌≤◌, ℤ, pos, ◌+ℤ◌, subst₂, true, refl, sym, ap, ap₂, ◌∙◌, subst, arith, suc, List, [], ◌∷◌, ◌++◌, length}
 use mathlib.Core.Path.{fun_ext}
-use Rattle.std.specs.List.{AllByRecursion, filter}
+use Rattle.std.specs.List.{AllByRecursion}
 use Rattle.clr_num.specs.Direction.{IsDirection}
 use Rattle.clr_num.specs.Sums.{first_best}
 use Rattle.clr_rules.specs.declared.season_rules.Summary.{Summary}
-use Rattle.clr_rules.specs.Rules.{is_live, live_rungs, next_summary, rungs, summary}
-use Rattle.clr_rules.specs.LiveSummaries.{is_live_summary, leads_at}
+use Rattle.clr_rules.specs.Rules.{Rulebook, is_live, live_rungs, next_summary, rungs, summary}
+use Rattle.clr_rules.specs.LiveSummaries.{is_live_summary}
 use Rattle.clr_rules.proofs.ListTests.{All-filter}
-use Rattle.clr_rules.proofs.LiveLemmas.{All-live_rungs, live-next, live-rung}
-use Rattle.clr_rules.proofs.LiveLists.{leads-live}
-use Rattle.clr_rules.proofs.SummaryLemmas.{live-keeps, summary-more}
+use Rattle.clr_rules.proofs.LiveLemmas.{live-rung}
+use Rattle.clr_rules.proofs.SummaryLemmas.{summary-more}
 use Rattle.clr_season.specs.Season.{Season, IsPlace, IsSeason}
 use Rattle.clr_model.specs.PathValue.{weighed}
 use Rattle.clr_model.specs.StoreValue.{Multipliers, rung_value, store_value}
 use Rattle.clr_model.proofs.Abiding.{length_more}
 use Rattle.clr_model.proofs.Best.{best_value-same, first_best-same}
 use Rattle.clr_model.proofs.Sums.{All-imply}
-use Rattle.clr_rows.specs.Leads.{best_value, choice_so_far, lead_value, leads, value_so_far}
-use Rattle.clr_rows.specs.Summaries.{summary_prefix}
+use Rattle.clr_rows.specs.Leads.{AreBestRows, best_value, choice_so_far, lead_value, value_so_far}
+use Rattle.clr_rows.specs.Rows.{AreRows}
+use Rattle.clr_rows.specs.Summaries.{live_week, summary_prefix}
 use Rattle.clr_rows.proofs.Bests.{best_some}
 use Rattle.clr_rows.proofs.Prefixes.{IsPrefixOf, one_more, prefix_is, rungs_lead, some_leads}
+use Rattle.clr_rows.proofs.WeekRows.{choices_by, values_by}
 use Rattle.clr_storedp.specs.BySummary.{added, average_into, summary_choice, summary_value}
 use Rattle.clr_storedp.proofs.Fees.{average_apart}
 use Rattle.clr_storedp.proofs.Prefixes.{value_at_prefix}
@@ -64,3 +65,19 @@ module _ (leans : ℤ → ℤ → Type 0) (div : ℤ → ℕ → ℤ) (laws : Is
   choice_is =
       sym ((first_best-same gives (lead_value season.rules (average_into div m season store done) (added m season store done) s stock) 1 (live_rungs season.rules prefix) agree).0
       ∙ ap (first_best (lead_value season.rules (average_into div m season store done) (added m season store done) s stock) 1) (rungs_lead season.rules done s prefix of))
+
+-- ---- the rows of a week
+
+-- the best rows of the averages are the rows of the summaries' values and choices
+module _ (leans : ℤ → ℤ → Type 0) (div : ℤ → ℕ → ℤ) (laws : IsDirection leans div) (m : Multipliers) (season : Season) (store done width : ℕ) (is : IsSeason season) (first : 1 ≤ store) (last : store ≤ length season.stores) (early : done < season.rules.weeks) (rules : Rulebook)
+    (averages rows : List ℤ) (chosen : List ℕ) (count : ℕ) (rules_is : rules ≡ season.rules) (count_is : count ≡ length (live_week season.rules done))
+    (are : AreRows (pos 0) width (live_week season.rules (suc done)) (length (live_week season.rules (suc done))) (average_into div m season store done) averages) (best : AreBestRows rules done width averages (added m season store done) count rows chosen) where
+  pub values_are : AreRows (pos 0) width (live_week season.rules done) (length (live_week season.rules done)) (summary_value div m season store done) rows
+  values_are =
+      values_by rules season.rules done width count averages rows chosen (added m season store done) (average_into div m season store done) rules_is (omega (arith, early)) count_is are best (summary_value div m season store done)
+      (λ s x live. value_is leans div laws m season store done x s is first last early live)
+
+  pub choices_are : AreRows 0 width (live_week season.rules done) (length (live_week season.rules done)) (summary_choice div m season store done) chosen
+  choices_are =
+      choices_by rules season.rules done width count averages rows chosen (added m season store done) (average_into div m season store done) rules_is (omega (arith, early)) count_is are best (summary_choice div m season store done)
+      (λ s x live. choice_is leans div laws m season store done x s is first last early live)

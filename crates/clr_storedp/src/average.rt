@@ -1,5 +1,5 @@
 // The averages of one week, one for each summary after it.
-ghost use Rattle.std.specs.Prelude.{◌≡◌, ℕ, ◌≤◌, ◌<◌, ◌*◌, length, IfOk};
+ghost use Rattle.std.specs.Prelude.{◌≡◌, ◌≤◌, ◌<◌, ◌*◌, length, IfOk};
 ghost use Rattle.clr_rules.specs.declared.season_rules.Summary.{Summary};
 ghost use Rattle.clr_rows.specs.Summaries.{AreOnLadder};
 ghost use Rattle.clr_rows.specs.Rows.{AreWithin};

@@ -7,8 +7,8 @@
 
 mod average;
 mod bounds;
-mod choice;
 mod laws;
+mod payment;
 mod table;
 mod week;
 

@@ -1,10 +1,9 @@
 // A store's table over the live summaries.
-ghost use Rattle.std.specs.Prelude.{◌≡◌, ℕ, suc, ◌≤◌, ◌<◌, ◌+◌, pos, length, get_or, IfOk};
+ghost use Rattle.std.specs.Prelude.{◌≡◌, ◌≤◌, ◌<◌, ◌+◌, pos, length, get_or, IfOk};
 ghost use Rattle.clr_average.specs.Average.{IsWithin};
 ghost use Rattle.clr_mult.specs.Tables.{mult_at};
 ghost use Rattle.clr_rules.specs.FirstPath.{SomePathObeys};
 ghost use Rattle.clr_rules.specs.LiveSummaries.{IsAmong, live_pairs};
-ghost use Rattle.clr_season.specs.Season.{IsSeason, store_at};
 ghost use Rattle.clr_rows.specs.Rows.{AreWithin};
 ghost use Rattle.clr_storedp.specs.Tables.{AreOfSeason, AreSmall, IsTableOf, choices_of, table_pairs, values_of};
 

@@ -1,4 +1,4 @@
-use Rattle.std.proofs.Common.{◌≡◌, ◌≤◌, subst, sym, ◌∙◌, ap₂, ◌^◌}
+use Rattle.std.proofs.Common.{◌≤◌, subst, sym, ◌∙◌, ap₂, ◌^◌}
 use Rattle.clr_joint.proofs.Limits.{base_some}
 use Rattle.clr_joint.proofs.average.base_of_all.Goals as goal
 

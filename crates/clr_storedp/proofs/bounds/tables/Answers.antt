@@ -1,4 +1,4 @@
-use Rattle.std.proofs.Common.{◌≡◌, ℕ, ◌+◌, ◌<◌, suc, List, [], ◌∷◌, ◌++◌, length, get_or, ap, sym, ◌∙◌, subst, arith, below_more, length-append}
+use Rattle.std.proofs.Common.{◌≡◌, ◌+◌, suc, [], ◌∷◌, length, get_or, ap, sym, ◌∙◌, subst, arith, length-append}
 use Rattle.clr_mult.specs.Tables.{mult_at}
 use Rattle.clr_num.specs.Rounding.{ceil}
 use Rattle.clr_rows.proofs.Lists.{each_more}

@@ -2,7 +2,7 @@ use Rattle.std.proofs.Common.{◌≡◌, ℕ, ◌≤◌, pos, neg_ℤ, ◌-ℤ�
 use Rattle.std.proofs.lemmas.Int.{ints}
 use mir.Syntax.{w64}
 use Rattle.clr_average.specs.Average.{IsWithin}
-use Rattle.clr_joint.proofs.choice.added.Goals as goal
+use Rattle.clr_joint.proofs.payment.added.Goals as goal
 
 read : (cost : ℕ) → cost ≤ 1000000000000000 → to_z w64 (of_z w64 (pos 0 -ℤ to_z w64 cost)) ≡ neg_ℤ (pos cost)
 read cost le = omega (arith, ints)

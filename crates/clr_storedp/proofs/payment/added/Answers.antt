@@ -4,7 +4,7 @@ use mir.Syntax.{w64}
 use Rattle.clr_average.specs.Average.{IsWithin}
 use Rattle.clr_mult.specs.Steps.{IsSmall}
 use Rattle.clr_mult.specs.Tables.{mult_at}
-use Rattle.clr_storedp.proofs.choice.added.Goals as goal
+use Rattle.clr_storedp.proofs.payment.added.Goals as goal
 
 read : (a : ℤ) (cost : ℕ) → IsSmall 10000000000000000 a → cost ≤ 10000000000000 → to_z w64 (of_z w64 (to_z w64 (of_z w64 a) -ℤ to_z w64 cost)) ≡ a -ℤ pos cost
 read a cost small le = omega (arith, ints)

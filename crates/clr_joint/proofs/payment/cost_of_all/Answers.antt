@@ -2,7 +2,7 @@ use Rattle.std.proofs.Common.{◌≡◌, ℕ, suc, ◌+◌, ◌*◌, ◌≤◌, 
 use Rattle.clr_num.specs.Sums.{sum_of}
 use Rattle.clr_average.proofs.Sums.{sum_of_more}
 use Rattle.clr_model.specs.Revenue.{cent, fee}
-use Rattle.clr_joint.proofs.choice.cost_of_all.Goals as goal
+use Rattle.clr_joint.proofs.payment.cost_of_all.Goals as goal
 
 range_more : (cost more index : ℕ) → cost ≤ index * 10000000000000 → more ≤ 10000000000000 → cost + more ≤ (index + 1) * 10000000000000
 range_more cost more index low high = omega arith

@@ -1,7 +1,7 @@
 use Rattle.std.proofs.Common.{◌≡◌, ◌≤◌, ◌*◌, suc, pos}
 use Rattle.clr_num.specs.Sums.{sum_of}
 use Rattle.clr_model.specs.Revenue.{cent, fee}
-use Rattle.clr_joint.proofs.choice.cost_of_all.Given as goal
+use Rattle.clr_joint.proofs.payment.cost_of_all.Given as goal
 
 abbrev pub invariant-loop-index : goal.invariant-loop-index
 invariant-loop-index l = record {
