@@ -10,27 +10,29 @@ ghost use Rattle.std.specs.Prelude.{◌≡◌};
 
 use crate::asks::{Ask, assert_answers};
 use clr_mult::Mult;
-use clr_num::Up;
+use clr_num::{Direction, Down, Up};
 use clr_rules::{Live, Summary};
 use clr_season::Season;
 use clr_storedp::{StoreTable, bound};
 use std::alloc::{AllocError, Global};
 use std::test::Fail;
 
-// The bound, and the values of the first store after one week on rung 1, at the stocks from 0 up, in units.
+// The bound, and the values of the first store after one week on rung 1, at the stocks from 0 up, in units: rounded up, and then down.
 const CASES: &str =
     "# 10.00 on rung 1, and 6.00 on rung 2. What is left after the week is worth nothing.
-both free: bound 1600000000 values 0 0
+both free: bound 1600000000 up 0 0 down 0 0
 # A cost of 1.00: 10.00 on rung 1 without it, and 6.00 - 1.00 on rung 2.
-both 1.00: bound 1500000000 values 0 0
+both 1.00: bound 1500000000 up 0 0 down 0 0
 # In week 2 one unit earns 5.00 on rung 1 and 4.00 on rung 2, and two earn 8.00 on rung 2. On rung 1 in week 1:
 # (8.00 + 10.00 + 5.00) / 2
-late free: bound 1150000000 values 0 500000000 800000000
+late free: bound 1150000000 up 0 500000000 800000000 down 0 500000000 800000000
 # A cost of 0.50: 5.00 and 4.00 - 0.50, and 8.00 - 0.50. On rung 1 in week 1: (7.50 + 10.00 + 5.00) / 2
-late 0.50: bound 1125000000 values 0 500000000 750000000";
+late 0.50: bound 1125000000 up 0 500000000 750000000 down 0 500000000 750000000
+# Two thirds of 10.00 in week 2, and in week 1 as much again
+weeks of thirds: bound 1333333334 up 0 666666667 666666667 666666667 down 0 666666666 666666666 666666666";
 
-// Whether these are the values of the first store after one week on rung 1.
-fn is_first_row(
+// Whether these are the values of the first store after one week on rung 1, rounded in the direction `R`.
+fn is_first_row<R: Direction>(
     alloc: Global,
     season: &Season,
     live: &Live,
@@ -43,7 +45,7 @@ fn is_first_row(
     requires mult { AreOfSeason season.now mult.now }
     requires small { AreSmall mult.now }
 {
-    let table = StoreTable::<Up>::build(alloc, season, live, mult, 1)?;
+    let table = StoreTable::<R>::build(alloc, season, live, mult, 1)?;
     let on_rung_1 = Summary {
         last: 1,
         count: 0,
@@ -68,13 +70,15 @@ pub fn is_bounded(
     requires small { AreSmall mult.now }
     requires tables { AreTablesOf ceil (mult_at mult.now) season.now tables.now }
 {
-    let [least, values @ ..] = numbers else {
+    let [least, rows @ ..] = numbers else {
         return Ok(false);
     };
+    let (up, down) = rows.split_at(rows.len() / 2);
     if bound(season, mult, tables) != i128::from(*least) {
         return Ok(false);
     }
-    is_first_row(alloc, season, live, mult, values)
+    Ok(is_first_row::<Up>(alloc, season, live, mult, up)?
+        && is_first_row::<Down>(alloc, season, live, mult, down)?)
 }
 
 #[test]
