@@ -108,12 +108,7 @@ fn feed_lines(checker: &mut Checker<'_>, text: &[u8]) -> usize {
 }
 
 // Whether a checker that is fed line after line takes those before the one that is refused, and then answers this.
-fn is_fed(
-    alloc: Global,
-    season: &Season,
-    text: &[u8],
-    want: Want<'_>,
-) -> Result<bool, AllocError> {
+fn is_fed(alloc: Global, season: &Season, text: &[u8], want: Want<'_>) -> Result<bool, AllocError> {
     let mut checker = Checker::open(alloc, season)?;
     let taken = feed_lines(&mut checker, text);
     match checker.close() {

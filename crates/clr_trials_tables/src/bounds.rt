@@ -77,8 +77,10 @@ pub fn is_bounded(
     if bound(season, mult, tables) != i128::from(*least) {
         return Ok(false);
     }
-    Ok(is_first_row::<Up>(alloc, season, live, mult, up)?
-        && is_first_row::<Down>(alloc, season, live, mult, down)?)
+    Ok(
+        is_first_row::<Up>(alloc, season, live, mult, up)?
+            && is_first_row::<Down>(alloc, season, live, mult, down)?,
+    )
 }
 
 #[test]
